@@ -1,13 +1,17 @@
 -- The rules that every sheet keeps. Assumes nothing.
 use mathlib.Core.Path.{_≡_}
-use mathlib.Core.Bool.{Bool, true, false, _&&_, _||_, not}
+use mathlib.Core.Bool.{Bool, true, false, cond, _&&_, not}
 use mathlib.Core.List.{List, [], _∷_, _++_}
 use Prim.Native.Nat.{ℕ, _-_, _≤_, _<_}
 use lib.Dec.{leb, ltb}
 use lib.IntN.{ℤ, natAbs}
 use lib.Signed.{leZ}
 use lib.ListN.{length, getD, take, replicate}
+use Rattle.std.specs.Options.{isSome}
 use Rattle.std.specs.shelf.Text.{sameBytes}
+use Rattle.std.specs.declared.option.Option.{Option}
+use Rattle.std.specs.declared.option.Option.the-variants.{Some, None}
+use Rattle.search.specs.Order.{placeBy}
 use Rattle.sheet.specs.declared.parts.Name.{Name}
 use Rattle.sheet.specs.declared.parts.Variable.{Variable}
 use Rattle.sheet.specs.declared.parts.Expression.{Expression}
@@ -38,10 +42,17 @@ named w = record { letters = w ++ replicate (12 - length w) 0 }
 abbrev pub nameOk : Name → Bool
 nameOk n = proper (spelled n) && sameBytes (n .letters) (named (spelled n) .letters)
 
+-- the name that a word spells, or none
+abbrev pub nameOf : List ℕ → Option Name
+nameOf w = cond (proper w) (Some (named w)) None
+
+-- the number of the variable with the name n, or none
+abbrev pub numberOfName : List Variable → Name → Option ℕ
+numberOfName vs n = placeBy (λ v. sameBytes (v .name .letters) (n .letters)) vs
+
 -- some variable of vs has the name n
 abbrev pub declared : List Variable → Name → Bool
-declared [] n = false
-declared (v ∷ vs) n = sameBytes (v .name .letters) (n .letters) || declared vs n
+declared vs n = isSome (numberOfName vs n)
 
 -- a number that a sheet may write down
 abbrev pub written : ℤ → Bool

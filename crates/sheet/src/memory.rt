@@ -1,6 +1,7 @@
 // The memory of a sheet's parts.
+ghost use mathlib.Core.Path.{_≡_};
 ghost use Prim.Native.Nat.{_≤_};
-ghost use Rattle.std.specs.Of.Vec.{vec-cap};
+ghost use Rattle.std.specs.Of.Vec.{vec-cap, vec-len};
 use crate::parts::Expression;
 use crate::parts::Statement;
 use crate::parts::Variable;
@@ -12,5 +13,7 @@ pub struct Tables {
     pub expressions: Vec<Expression>,
     pub sizes: Vec<u32>,
     pub statements: Vec<Statement>,
+    ghost few: { (vec-len variables ≤ 16) × (vec-len expressions ≤ 200) × (vec-len statements ≤ 200) },
+    ghost level: { vec-len sizes ≡ vec-len expressions },
     ghost room: { (16 ≤ vec-cap variables) × (200 ≤ vec-cap expressions) × (200 ≤ vec-cap sizes) × (200 ≤ vec-cap statements) },
 }

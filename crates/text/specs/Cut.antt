@@ -49,9 +49,9 @@ Handed c s p q None = (left c (s .now) p ≡ []) × (q ≡ p)
 -- the piece is a part of s up to the next c, it is the first of those that were left, and q is past that c
 Handed c s p q (Some x) =
     PartAt s x p (before c (drop p (s .now)))
-  × (left c (s .now) p ≡ x .now ∷ left c (s .now) q)
-  × (q ≡ p + length (x .now) + 1)
-  × (q ≤ length (s .now) + 1)
+    × (left c (s .now) p ≡ x .now ∷ left c (s .now) q)
+    × (q ≡ p + length (x .now) + 1)
+    × (q ≤ length (s .now) + 1)
 
 -- a call that looked for a key from place p of s on, and ended at place q; a key ends ahead of a `=`, the byte 61
 abbrev pub KeyAt : RefT (List ℕ) → ℕ → ℕ → Option (RefT (List ℕ)) → Type 0
@@ -60,6 +60,6 @@ KeyAt s p q None = (length (before 61 (drop p (s .now))) ≡ length (drop p (s .
 -- the key is a part of s up to the first `=`, and what is left begins past that `=`
 KeyAt s p q (Some x) =
     PartAt s x p (before 61 (drop p (s .now)))
-  × (length (before 61 (drop p (s .now))) < length (drop p (s .now)))
-  × (drop q (s .now) ≡ after 61 (drop p (s .now)))
-  × (q ≤ length (s .now))
+    × (length (before 61 (drop p (s .now))) < length (drop p (s .now)))
+    × (drop q (s .now) ≡ after 61 (drop p (s .now)))
+    × (q ≤ length (s .now))

@@ -1,6 +1,5 @@
 // Reads decimal numbers. A number has one text, so `+5`, `007` and `-0` are none.
 ghost use mathlib.Core.Path.{_≡_};
-ghost use Prim.Native.Nat.{ℕ};
 ghost use Rattle.text.specs.Decimals.{naturalOf, numberOf};
 
 // The number up to `limit` that `word` writes, or none.
@@ -36,13 +35,7 @@ pub fn number(word: &[u8]) -> Option<i32>
     if word.len() > 0 && word[0] == b'-' {
         match natural(&word[1..], MOST) {
             None => None,
-            Some(n) => {
-                if n == 0 {
-                    None
-                } else {
-                    Some(-(n as i32))
-                }
-            }
+            Some(n) => if n == 0 { None } else { Some(-(n as i32)) },
         }
     } else {
         match natural(word, MOST) {

@@ -1,6 +1,6 @@
 // A text is read from its start to its end, by cutting parts off it. Nothing is copied.
 ghost use mathlib.Core.Path.{_≡_};
-ghost use Prim.Native.Nat.{ℕ, _+_, _≤_};
+ghost use Prim.Native.Nat.{_+_, _≤_};
 ghost use lib.ListN.{length, drop};
 ghost use Rattle.std.specs.shelf.Text.{sameBytes};
 ghost use Rattle.text.specs.Cut.{before, Handed, KeyAt};

@@ -1,0 +1,10 @@
+use mathlib.Core.Path.{sym}
+use native.Mathlib.Omega.{arith}
+use Rattle.std.specs.Of.Vec.{vec-items}
+use Rattle.std.proofs.shelf.Lists.{getD-past}
+use Rattle.lines.proofs.sizes.size_at.Needs as need
+
+pub returns-else-k-len : need.returns-else-k-len
+returns-else-k-len c =
+    let t = c .args .tables .now in
+    sym (getD-past (vec-items (t .sizes)) (c .args .k) 0 (omega (arith, c .if-k-len .left, t .sizes .ok .0, c .len .ensures)))
