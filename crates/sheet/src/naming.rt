@@ -4,7 +4,7 @@ ghost use Prim.Native.Nat.{_<_};
 ghost use lib.ListN.{length};
 ghost use Rattle.std.specs.Slices.{found};
 ghost use Rattle.search.specs.Sides.{by-bytes};
-ghost use Rattle.search.specs.declared.Side.the-variants.{Lower, Same};
+ghost use Rattle.search.specs.declared.order.Side.the-variants.{Lower, Same};
 ghost use Rattle.sheet.specs.Limits.{nameOf, numberOfName};
 use crate::parts::Name;
 use crate::parts::Variable;

@@ -1,0 +1,6 @@
+pub mod Steps
+pub mod Pieces
+pub mod Names
+pub mod Roles
+pub mod Shapes
+pub mod Taken

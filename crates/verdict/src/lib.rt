@@ -1,0 +1,3 @@
+// The verdict on a text: the sheet that it spells, or why it is refused; and the laws that it keeps.
+mod refusals;
+pub use crate::refusals::Refusal;
