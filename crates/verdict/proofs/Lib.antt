@@ -4,3 +4,5 @@ pub mod Names
 pub mod Roles
 pub mod Shapes
 pub mod Taken
+pub mod Given
+pub mod Chains
