@@ -6,3 +6,6 @@ pub mod Shapes
 pub mod Taken
 pub mod Given
 pub mod Chains
+pub mod Sound
+pub mod Complete
+pub mod Refused

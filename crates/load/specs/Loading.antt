@@ -1,0 +1,34 @@
+-- What a load answers, and what it leaves. Assumes nothing.
+use mathlib.Core.Path.{_≡_}
+use mathlib.Core.List.{List, [], _∷_}
+use Prim.Native.Nat.{ℕ, _+_, _≤_, _<_}
+use lib.ListN.{length, take}
+use denote.Ref.{RefT}
+use Rattle.std.specs.Joined.{joined}
+use Rattle.std.specs.declared.option.Option.{Option}
+use Rattle.std.specs.declared.option.Option.the-variants.{Some, None}
+use Rattle.std.specs.declared.result.Result.{Result}
+use Rattle.std.specs.declared.result.Result.the-variants.{Ok, Err}
+use Rattle.text.specs.Cut.{PartAt}
+use Rattle.sheet.specs.declared.kept.Sheet.{Sheet}
+use Rattle.sheet.specs.Content.{Content}
+use Rattle.sheet.specs.Writing.{ended, nameAt, variableLine}
+use Rattle.sheet.specs.Held.{content}
+use Rattle.lines.specs.declared.drafts.Draft.{Draft}
+use Rattle.lines.specs.Said.{said}
+use Rattle.verdict.specs.declared.refusals.Refusal.{Refusal}
+use Rattle.verdict.specs.Verdict.{sheetOf, linesOf, verdict}
+
+-- what a sheet says
+abbrev pub sheetIn : Sheet → Content
+sheetIn s = content (s .tables) (s .run)
+
+-- a reading that came to the verdict v: the draft holds the sheet, whose run number is answered, or the refusal is
+abbrev pub Drafted : Result ℕ Refusal → Draft → Result Content Refusal → Type 0
+Drafted (Ok n) d v = v ≡ Ok (sheetOf (said d) n)
+Drafted (Err r) d v = v ≡ Err r
+
+-- a load that came to the verdict v, from the sheet s to the sheet t: t is the sheet of the text, or nothing changed
+abbrev pub Loads : Result (Unit {0}) Refusal → Content → Content → Result Content Refusal → Type 0
+Loads (Ok u) s t v = v ≡ Ok t
+Loads (Err r) s t v = (v ≡ Err r) × (t ≡ s)

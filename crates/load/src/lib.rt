@@ -1,0 +1,2 @@
+// Loads sheets from their texts.
+mod reading;
