@@ -1,23 +1,15 @@
 -- What a load answers, and what it leaves. Assumes nothing.
 use mathlib.Core.Path.{_≡_}
-use mathlib.Core.List.{List, [], _∷_}
-use Prim.Native.Nat.{ℕ, _+_, _≤_, _<_}
-use lib.ListN.{length, take}
-use denote.Ref.{RefT}
-use Rattle.std.specs.Joined.{joined}
-use Rattle.std.specs.declared.option.Option.{Option}
-use Rattle.std.specs.declared.option.Option.the-variants.{Some, None}
+use Prim.Native.Nat.{ℕ}
 use Rattle.std.specs.declared.result.Result.{Result}
 use Rattle.std.specs.declared.result.Result.the-variants.{Ok, Err}
-use Rattle.text.specs.Cut.{PartAt}
 use Rattle.sheet.specs.declared.kept.Sheet.{Sheet}
 use Rattle.sheet.specs.Content.{Content}
-use Rattle.sheet.specs.Writing.{ended, nameAt, variableLine}
 use Rattle.sheet.specs.Held.{content}
 use Rattle.lines.specs.declared.drafts.Draft.{Draft}
 use Rattle.lines.specs.Said.{said}
 use Rattle.verdict.specs.declared.refusals.Refusal.{Refusal}
-use Rattle.verdict.specs.Verdict.{sheetOf, linesOf, verdict}
+use Rattle.verdict.specs.Verdict.{sheetOf, verdict}
 
 -- what a sheet says
 abbrev pub sheetIn : Sheet → Content

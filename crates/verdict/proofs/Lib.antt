@@ -9,3 +9,4 @@ pub mod Chains
 pub mod Sound
 pub mod Complete
 pub mod Refused
+pub mod Laws

@@ -148,3 +148,10 @@ key-split c (b ∷ bs) h = go (eqb b c) refl h (key-split c bs)
   go : (t : Bool) → eqb b c ≡ t → (length (cond t [] (b ∷ before c bs)) ≡ suc (length bs) → ⊥) → ((length (before c bs) ≡ length bs → ⊥) → bs ≡ before c bs ++ c ∷ after c bs) → b ∷ bs ≡ cond t [] (b ∷ before c bs) ++ c ∷ cond t bs (after c bs)
   go true e k r = ap (λ x. x ∷ bs) (eqb-true b c e)
   go false e k r = ap (λ l. b ∷ l) (r (λ q. k (ap suc q)))
+
+-- the word ahead of a byte that it lacks
+pub before-lacks : (c : ℕ) (w bs : List ℕ) → lacks c w ≡ true → before c (w ++ c ∷ bs) ≡ w
+before-lacks c [] bs e = ap (λ t. cond t [] (c ∷ before c bs)) (eq-eqb c c refl)
+before-lacks c (b ∷ w) bs e =
+    let p = other c b w e in
+    ap (λ t. cond t [] (b ∷ before c (w ++ c ∷ bs))) (p .0) ∙ ap (λ l. b ∷ l) (before-lacks c w bs (p .1))

@@ -98,13 +98,26 @@ accepted-head text c q =
     let some : 0 < length text = omega (arith, eqb-false (length text) 0 (o .0)) in
     head-ran text (parted 10 (body text)) c some (ltb-false 16384 (length text) (o .1)) (last-byte text some (eqb-true _ 10 (r .0))) refl (r .1)
 
-pub sound : (text : List ℕ) (c : Content) → verdict text ≡ Ok c → (text ≡ writing c) × Limits c
-sound text c q =
+-- the lines of a text that is accepted
+pub record Lines (text : List ℕ) (c : Content) : Type 0 where
+  pub head : Head text c
+  pub lines : parted 10 (body text) ≡ codes "sheet=2" ∷ bodyLines c
+  pub good : Good (head .ran .last)
+
+pub accepted-lines : (text : List ℕ) (c : Content) → verdict text ≡ Ok c → Lines text c
+accepted-lines text c q =
     let h = accepted-head text c q in
     let r = h .ran in
-    let g = chain-good (r .items) nothing (r .last) (r .chain) good-start in
-    let lines : h .rest ≡ bodyLines c = r .lines ∙ sym (chain-lines (r .items) nothing (r .last) (r .chain)) ∙ said-body (r .last) (r .start) (r .run) ∙ ap bodyLines (r .sheet) in
-    let is : text ≡ writing c = h .whole ∙ sym (ended-parted (body text)) ∙ ap (joined ended) (h .cut) ∙ ap (λ ls. joined ended (codes "sheet=2" ∷ ls)) lines in
+    let rest : h .rest ≡ bodyLines c = r .lines ∙ sym (chain-lines (r .items) nothing (r .last) (r .chain)) ∙ said-body (r .last) (r .start) (r .run) ∙ ap bodyLines (r .sheet) in
+    record { head = h; lines = h .cut ∙ ap (λ ls. codes "sheet=2" ∷ ls) rest; good = chain-good (r .items) nothing (r .last) (r .chain) good-start }
+
+pub sound : (text : List ℕ) (c : Content) → verdict text ≡ Ok c → (text ≡ writing c) × Limits c
+sound text c q =
+    let l = accepted-lines text c q in
+    let h = l .head in
+    let r = h .ran in
+    let g = l .good in
+    let is : text ≡ writing c = h .whole ∙ sym (ended-parted (body text)) ∙ ap (joined ended) (l .lines) in
     let n = g .run (r .start) (r .run) in
     let kept : length (writing (sheetOf (r .last) (r .start))) ≤ 16384 → Limits (sheetOf (r .last) (r .start)) = λ short. record {
       counts = (n .1, g .few-variables, g .few-expressions, omega (arith, n .0), g .few-statements);
