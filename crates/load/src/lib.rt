@@ -4,3 +4,5 @@ mod loading;
 mod names;
 mod reading;
 pub use crate::loading::Loader;
+pub use sheet::Sheet;
+pub use verdict::Refusal;
