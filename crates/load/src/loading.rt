@@ -5,6 +5,6 @@ use sheet::Sheet;
 // Holds a sheet, and a draft that a text is read into. All memory is reserved when it is made.
 #[derive(Drop)]
 pub struct Loader {
-    pub sheet: Sheet,
-    pub draft: Draft,
+    pub(crate) sheet: Sheet,
+    pub(crate) draft: Draft,
 }

@@ -84,6 +84,7 @@ impl Sheet {
     pub fn trade(&mut self, tables: &mut Tables, run: u16)
         requires { ⌜ Limits (content (now tables) run) ⌝ }
         ensures sheet { λ _. ⌜ content (now (self .exit) .tables) (now (self .exit) .run) ≡ content (now (tables .entry)) run ⌝ }
+        ensures tables { λ _. ⌜ now (tables .exit) ≡ now (self .entry) .tables ⌝ }
     {
         std::mem::swap(&mut self.tables, tables);
         self.run = run;

@@ -5,11 +5,12 @@ use mathlib.Core.List.{List, [], _∷_, _++_}
 use Prim.Native.Nat.{ℕ, zero, suc, _+_, _<_, _≤_}
 use native.Mathlib.Omega.{arith}
 use lib.ListN.{length, getD}
-use Rattle.std.proofs.shelf.Lists.{length-push, getD-append-left, getD-push, getD-past}
+use Rattle.std.proofs.shelf.Lists.{length-push, getD-push, getD-past}
 use Rattle.sheet.specs.declared.parts.Expression.{Expression}
 use Rattle.sheet.specs.declared.parts.Expression.the-variants.{Last}
 use Rattle.sheet.specs.Limits.{expressionOk, ExpressionsOk}
 use Rattle.sheet.specs.Sizes.{tabled}
+use Rattle.sheet.proofs.Tabled.{tabled-length, tabled-front}
 
 -- two lists, as long as each other, whose entries are related place by place
 pub data Alike {X Y : Type 0} (R : X → Y → Type 0) : List X → List Y → Type 0 where
@@ -40,17 +41,6 @@ tables-alike R f g (e ∷ es) xs ys step h =
 abbrev pub Looks : {X : Type 0} → ℕ → X → (List X → Expression → X) → Type 0
 Looks {X = X} n d f = (e : Expression) (k : ℕ) (xs ys : List X) → expressionOk n k e ≡ true → ((a : ℕ) → a < k → getD xs a d ≡ getD ys a d) → f xs e ≡ f ys e
 
--- a table has an entry for each expression
-pub table-length : {X : Type 0} (f : List X → Expression → X) (es : List Expression) (done : List X) → length (tabled f es done) ≡ length done + length es
-table-length f [] done = omega arith
-table-length f (e ∷ es) done = table-length f es (done ++ f done e ∷ []) ∙ rw length-push (omega arith)
-
--- what is done stays
-pub table-keeps : {X : Type 0} (f : List X → Expression → X) (d : X) (es : List Expression) (done : List X) (i : ℕ) → i < length done → getD (tabled f es done) i d ≡ getD done i d
-table-keeps f d [] done i h = refl
-table-keeps f d (e ∷ es) done i h =
-    table-keeps f d es (done ++ f done e ∷ []) i (rw length-push (omega arith)) ∙ getD-append-left done (f done e ∷ []) d i h
-
 -- an entry that is still to come is the step's, over the whole table
 entry-from : {X : Type 0} (n : ℕ) (f : List X → Expression → X) (d : X) → Looks n d f → (es : List Expression) (done : List X)
     → ((k : ℕ) → k < length es → expressionOk n (length done + k) (getD es k Last) ≡ true)
@@ -60,9 +50,9 @@ entry-from n f d look (e ∷ es) done ok zero h =
     let here : length done + 0 ≡ length done = omega arith in
     let whole = tabled f es (done ++ f done e ∷ []) in
     ap (λ (j : ℕ). getD whole j d) here
-    ∙ table-keeps f d es (done ++ f done e ∷ []) (length done) (rw length-push (omega arith))
+    ∙ tabled-front f es (done ++ f done e ∷ []) (length done) d (rw length-push (omega arith))
     ∙ getD-push done (f done e) d (length done) refl
-    ∙ look e (length done) done whole (ap (λ (j : ℕ). expressionOk n j e) (sym here) ∙ ok 0 (omega arith)) (λ a p. sym (table-keeps f d (e ∷ es) done a p))
+    ∙ look e (length done) done whole (ap (λ (j : ℕ). expressionOk n j e) (sym here) ∙ ok 0 (omega arith)) (λ a p. sym (tabled-front f (e ∷ es) done a d p))
 entry-from n f d look (e ∷ es) done ok (suc k) h =
     let pushed = done ++ f done e ∷ [] in
     let place : (j : ℕ) → length pushed + j ≡ length done + suc j = λ j. rw length-push (omega arith) in
@@ -79,4 +69,4 @@ table-entry n f d look es ok i h =
 
 -- past the end there is nothing
 pub table-past : {X : Type 0} (f : List X → Expression → X) (d : X) (es : List Expression) (i : ℕ) → length es ≤ i → getD (tabled f es []) i d ≡ d
-table-past f d es i h = getD-past (tabled f es []) i d (rw table-length (omega arith))
+table-past f d es i h = getD-past (tabled f es []) i d (omega (arith, tabled-length f es []))
