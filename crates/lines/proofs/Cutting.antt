@@ -31,8 +31,8 @@ pub line-by : (d : Said) (l w : List ℕ) (k : Keyword) (q : ℕ) (r : Result It
 line-by d l w k q r short some key rest inside adm item =
     item ∙ ap (itemOf d k) (left-in 32 l q inside ∙ ap (parted 32) rest)
     ∙ sym (cond-false (ltb 64 (length l)) _ _ (le-ltb 64 _ short)
-      ∙ cond-false (eqb (length (before 61 l)) (length l)) _ _ (ne-eqb _ _ (λ e. omega arith))
-      ∙ ap (λ x. then x (λ j. itemOf d j (parted 32 (after 61 l)))) (ap (λ y. admitted d (keywordOf y)) (sym key) ∙ sym adm))
+    ∙ cond-false (eqb (length (before 61 l)) (length l)) _ _ (ne-eqb _ _ (λ e. omega arith))
+    ∙ ap (λ x. then x (λ j. itemOf d j (parted 32 (after 61 l)))) (ap (λ y. admitted d (keywordOf y)) (sym key) ∙ sym adm))
 
 -- the same, where a reader s of the line t handed out the key
 pub line-read : (d : Said) (s t u w : RefT (List ℕ)) (p q : ℕ) (k : Keyword) (r : Result Item Fault) → s ≡ t → p ≡ 0 → u ≡ s → length (t .now) ≤ 64 → KeyAt s p q (Some w)

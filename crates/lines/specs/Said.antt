@@ -28,7 +28,7 @@ said d = record {
   sizes = vec-items (d .tables .sizes);
   statements = vec-items (d .tables .statements);
   run = d .run;
- }
+}
 
 -- no line yet
 abbrev pub nothing : Said

@@ -8,6 +8,7 @@ mod readers;
 mod shapes;
 mod sizes;
 mod words;
+
 pub use crate::drafts::Draft;
 pub use crate::items::Fault;
 pub use crate::items::Item;

@@ -51,11 +51,21 @@ pub fn look_there(draft: &Draft, at: u8, role: Role, n: u16) -> Result<u16, Faul
         Role::Expression => draft.tables.expressions.len(),
         Role::Statement => draft.tables.statements.len(),
     };
-    if (n as usize) < count { Ok(n) } else { Err(Fault::Operand(at)) }
+    if (n as usize) < count {
+        Ok(n)
+    } else {
+        Err(Fault::Operand(at))
+    }
 }
 
 // The operands in the second, third and fourth word of a line.
-pub fn read_operands(draft: &Draft, roles: Roles, a: &[u8], b: &[u8], c: &[u8]) -> Result<Operands, Fault>
+pub fn read_operands(
+    draft: &Draft,
+    roles: Roles,
+    a: &[u8],
+    b: &[u8],
+    c: &[u8],
+) -> Result<Operands, Fault>
     ensures { λ r. ⌜ r ≡ operands (said (now (draft .entry))) roles (now (a .entry)) (now (b .entry)) (now (c .entry)) ⌝ }
 {
     let i = read_numeral(2, roles.first, a)?;
@@ -67,5 +77,9 @@ pub fn read_operands(draft: &Draft, roles: Roles, a: &[u8], b: &[u8], c: &[u8]) 
     let first = look_there(draft, 2, roles.first, i)?;
     let second = look_there(draft, 3, roles.second, j)?;
     let third = look_there(draft, 4, roles.third, k)?;
-    Ok(Operands { first, second, third })
+    Ok(Operands {
+        first,
+        second,
+        third,
+    })
 }

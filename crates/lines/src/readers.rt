@@ -33,11 +33,20 @@ fn with_size(draft: &Draft, e: Expression) -> Result<Item, Fault>
     ensures { λ r. ⌜ r ≡ sized (said (now (draft .entry))) e ⌝ }
 {
     let size = expression_size(&draft.tables, e);
-    if size <= MOST_SIZE { Ok(Item::Expression(e, size as u32)) } else { Err(Fault::Size) }
+    if size <= MOST_SIZE {
+        Ok(Item::Expression(e, size as u32))
+    } else {
+        Err(Fault::Size)
+    }
 }
 
 // The expression that an operation makes of its operands' words.
-fn make_expression(draft: &Draft, form: Option<Expression>, a: &[u8], b: &[u8]) -> Result<Item, Fault>
+fn make_expression(
+    draft: &Draft,
+    form: Option<Expression>,
+    a: &[u8],
+    b: &[u8],
+) -> Result<Item, Fault>
     ensures { λ r. ⌜ r ≡ expressionBy (said (now (draft .entry))) form (now (a .entry)) (now (b .entry)) [] ⌝ }
 {
     let Some(e) = form else {
@@ -48,7 +57,13 @@ fn make_expression(draft: &Draft, form: Option<Expression>, a: &[u8], b: &[u8]) 
 }
 
 // The statement that an operation makes of its operands' words.
-fn make_statement(draft: &Draft, form: Option<Statement>, a: &[u8], b: &[u8], c: &[u8]) -> Result<Item, Fault>
+fn make_statement(
+    draft: &Draft,
+    form: Option<Statement>,
+    a: &[u8],
+    b: &[u8],
+    c: &[u8],
+) -> Result<Item, Fault>
     ensures { λ r. ⌜ r ≡ statementBy (said (now (draft .entry))) form (now (a .entry)) (now (b .entry)) (now (c .entry)) ⌝ }
 {
     let Some(s) = form else {
@@ -113,7 +128,11 @@ fn read_bound(at: u8, word: &[u8]) -> Result<i32, Fault>
 fn upward_from(low: i32, high: i32) -> Result<i32, Fault>
     ensures { λ r. ⌜ r ≡ upward low high ⌝ }
 {
-    if low <= high { Ok(high) } else { Err(Fault::Number(3)) }
+    if low <= high {
+        Ok(high)
+    } else {
+        Err(Fault::Number(3))
+    }
 }
 
 // A name that is not declared yet.
@@ -162,8 +181,12 @@ fn may_stand(draft: &Draft, key: Keyword) -> bool
     let tables = &draft.tables;
     match key {
         Keyword::Sheet => tables.variables.len() == 0,
-        Keyword::Var => tables.expressions.len() == 0 && tables.statements.len() == 0 && draft.run.is_none(),
-        Keyword::Expr => tables.variables.len() > 0 && tables.statements.len() == 0 && draft.run.is_none(),
+        Keyword::Var => tables.expressions.len() == 0
+            && tables.statements.len() == 0
+            && draft.run.is_none(),
+        Keyword::Expr => tables.variables.len() > 0
+            && tables.statements.len() == 0
+            && draft.run.is_none(),
         Keyword::Stmt => tables.variables.len() > 0 && draft.run.is_none(),
         Keyword::Run => tables.variables.len() > 0 && tables.statements.len() > 0,
         Keyword::Unknown => false,

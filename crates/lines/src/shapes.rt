@@ -1,5 +1,6 @@
 // What the operands of expressions and statements stand for, and what is made of them.
 ghost use mathlib.Core.Path.{_≡_};
+ghost use Rattle.lines.specs.declared.items.Role.the-variants.{Absent};
 ghost use Rattle.lines.specs.Forms.{roles, expressionRoles, statementRoles, expressionWith, statementWith};
 use crate::items::Operands;
 use crate::items::Role;
@@ -7,10 +8,23 @@ use crate::items::Roles;
 use sheet::Expression;
 use sheet::Statement;
 
-fn roles_of(first: Role, second: Role, third: Role) -> Roles
-    ensures { λ r. ⌜ r ≡ roles first second third ⌝ }
+// Two operands.
+fn two(first: Role, second: Role) -> Roles
+    ensures { λ r. ⌜ r ≡ roles first second Absent ⌝ }
 {
-    Roles { first, second, third }
+    let third = Role::Absent;
+    Roles {
+        first,
+        second,
+        third,
+    }
+}
+
+// One operand, or none where it is absent.
+fn one(first: Role) -> Roles
+    ensures { λ r. ⌜ r ≡ roles first Absent Absent ⌝ }
+{
+    two(first, Role::Absent)
 }
 
 // What the operands of an expression stand for.
@@ -18,10 +32,10 @@ pub fn expression_roles(e: Expression) -> Roles
     ensures { λ r. ⌜ r ≡ expressionRoles e ⌝ }
 {
     match e {
-        Expression::Num(_) | Expression::Last => roles_of(Role::Absent, Role::Absent, Role::Absent),
-        Expression::Val(_) => roles_of(Role::Variable, Role::Absent, Role::Absent),
-        Expression::Not(_) => roles_of(Role::Expression, Role::Absent, Role::Absent),
-        Expression::Pair(_, _, _) => roles_of(Role::Expression, Role::Expression, Role::Absent),
+        Expression::Num(_) | Expression::Last => one(Role::Absent),
+        Expression::Val(_) => one(Role::Variable),
+        Expression::Not(_) => one(Role::Expression),
+        Expression::Pair(_, _, _) => two(Role::Expression, Role::Expression),
     }
 }
 
@@ -30,14 +44,20 @@ pub fn statement_roles(s: Statement) -> Roles
     ensures { λ r. ⌜ r ≡ statementRoles s ⌝ }
 {
     match s {
-        Statement::True | Statement::False | Statement::Empty | Statement::More => roles_of(Role::Absent, Role::Absent, Role::Absent),
-        Statement::Is(_, _) | Statement::Gets(_, _) => roles_of(Role::Variable, Role::Expression, Role::Absent),
-        Statement::And(_, _) | Statement::Chop(_, _) => roles_of(Role::Statement, Role::Statement, Role::Absent),
-        Statement::If(_, _, _) => roles_of(Role::Expression, Role::Statement, Role::Statement),
-        Statement::Next(_) | Statement::Always(_) => roles_of(Role::Statement, Role::Absent, Role::Absent),
-        Statement::Halt(_) | Statement::Len(_) => roles_of(Role::Expression, Role::Absent, Role::Absent),
-        Statement::For(_, _) | Statement::While(_, _) => roles_of(Role::Expression, Role::Statement, Role::Absent),
-        Statement::Request(_) => roles_of(Role::Variable, Role::Absent, Role::Absent),
+        Statement::True | Statement::False | Statement::Empty | Statement::More => one(
+            Role::Absent,
+        ),
+        Statement::Is(_, _) | Statement::Gets(_, _) => two(Role::Variable, Role::Expression),
+        Statement::And(_, _) | Statement::Chop(_, _) => two(Role::Statement, Role::Statement),
+        Statement::If(_, _, _) => Roles {
+            first: Role::Expression,
+            second: Role::Statement,
+            third: Role::Statement,
+        },
+        Statement::Next(_) | Statement::Always(_) => one(Role::Statement),
+        Statement::Halt(_) | Statement::Len(_) => one(Role::Expression),
+        Statement::For(_, _) | Statement::While(_, _) => two(Role::Expression, Role::Statement),
+        Statement::Request(_) => one(Role::Variable),
     }
 }
 

@@ -25,7 +25,11 @@ fn size_at(tables: &Tables, k: u16) -> u32
     ensures { λ r. ⌜ r ≡ getD (vec-items (now (tables .entry) .sizes)) k 0 ⌝ }
 {
     let k = k as usize;
-    if k < tables.sizes.len() { tables.sizes[k] } else { 0 }
+    if k < tables.sizes.len() {
+        tables.sizes[k]
+    } else {
+        0
+    }
 }
 
 // The size of a pair, from those of its operands.

@@ -59,8 +59,8 @@ named s k c None q h n =
     let many : k + 1 < length (linesIn (s .now)) = omega (arith, ap length (l .lines), long c) in
     absurd (omega (arith, n (l .head .some) many, ap length line))
   where
-  long : (b : Content) → length (b .variables) ≤ length (bodyLines b)
-  long b = simp length-append (omega (arith, length-map (b .variables) variableLine))
+    long : (b : Content) → length (b .variables) ≤ length (bodyLines b)
+    long b = simp length-append (omega (arith, length-map (b .variables) variableLine))
 named s k c (Some x) q h n =
     let l = accepted-lines (s .now) c q in
     let line = ap (λ ls. getD ls (k + 1) []) (l .lines) ∙ line-is c k h in

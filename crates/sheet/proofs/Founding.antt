@@ -31,7 +31,7 @@ first-limits = record {
   statements = one-statement;
   run = omega arith;
   text = omega arith;
- }
+}
 
 -- the same of tables that hold this sheet
 pub founded : (vs : List Variable) (es : List Expression) (ss : List Statement) → vs ≡ first .variables → es ≡ [] → ss ≡ first .statements → Limits (record { variables = vs; expressions = es; statements = ss; run = 0 })

@@ -4,6 +4,7 @@ mod making;
 mod memory;
 mod naming;
 mod parts;
+
 pub use crate::kept::Sheet;
 pub use crate::making::MOST_EXPRESSIONS;
 pub use crate::making::MOST_STATEMENTS;

@@ -17,7 +17,9 @@ use std::alloc::Global;
 
 // The most variables, expressions and statements that a sheet has.
 pub const MOST_VARIABLES: usize = 16;
+
 pub const MOST_EXPRESSIONS: usize = 200;
+
 pub const MOST_STATEMENTS: usize = 200;
 
 impl Tables {
@@ -29,7 +31,12 @@ impl Tables {
         let expressions = Vec::with_capacity(heap, MOST_EXPRESSIONS)?;
         let sizes = Vec::with_capacity(heap, MOST_EXPRESSIONS)?;
         let statements = Vec::with_capacity(heap, MOST_STATEMENTS)?;
-        Ok(Tables { variables, expressions, sizes, statements })
+        Ok(Tables {
+            variables,
+            expressions,
+            sizes,
+            statements,
+        })
     }
 
     // Empties the tables. They keep their memory.
@@ -74,8 +81,14 @@ impl Sheet {
         ensures { λ r. ⌜ made r (λ s. content (s .tables) (s .run) ≡ first) ⌝ }
     {
         let mut tables = Tables::new(heap)?;
-        let name = Name { letters: [b'a', 0, 0, 0, 0, 0, 0, 0, 0, 0, 0, 0] };
-        tables.variables.push_reserved(Variable { name, low: 0, high: 0 });
+        let name = Name {
+            letters: [b'a', 0, 0, 0, 0, 0, 0, 0, 0, 0, 0, 0],
+        };
+        tables.variables.push_reserved(Variable {
+            name,
+            low: 0,
+            high: 0,
+        });
         tables.statements.push_reserved(Statement::Empty);
         Ok(Sheet { tables, run: 0 })
     }

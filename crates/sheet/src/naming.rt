@@ -44,5 +44,12 @@ pub fn find_variable(variables: &[Variable], name: Name) -> Option<usize>
     ensures value { λ r. ⌜ r ≡ numberOfName (now (variables .entry)) name ⌝ }
     ensures bound { λ r. ⌜ found r (λ k. k < length (now (variables .entry))) ⌝ }
 {
-    search::first_place(variables, &Variable { name, low: 0, high: 0 })
+    search::first_place(
+        variables,
+        &Variable {
+            name,
+            low: 0,
+            high: 0,
+        },
+    )
 }

@@ -100,10 +100,16 @@ steady d g = record { names = g .variables; expressions = g .few-expressions; st
 
 pub good-start : Good nothing
 good-start = record {
-  few-variables = omega arith; few-expressions = omega arith; few-statements = omega arith;
-  variables = λ k h. absurd (omega arith); expressions = λ k h. absurd (omega arith); sized = refl; small = λ k h. absurd (omega arith);
-  statements = λ k h. absurd (omega arith); run = λ n q. absurd (clash-none q);
- }
+  few-variables = omega arith;
+  few-expressions = omega arith;
+  few-statements = omega arith;
+  variables = λ k h. absurd (omega arith);
+  expressions = λ k h. absurd (omega arith);
+  sized = refl;
+  small = λ k h. absurd (omega arith);
+  statements = λ k h. absurd (omega arith);
+  run = λ n q. absurd (clash-none q);
+}
 
 -- one entry more in a table whose entries keep a rule by their place
 table-push : {X : Type 0} (P : ℕ → X → Type 0) (xs : List X) (x y : X) → ((k : ℕ) → k < length xs → P k (getD xs k y)) → P (length xs) x → (k : ℕ) → k < length (xs ++ x ∷ []) → P k (getD (xs ++ x ∷ []) k y)
@@ -111,8 +117,8 @@ table-push P xs x y all last k h =
     ⊎-elim
     (λ lt. subst (P k) (sym (getD-append-left xs (x ∷ []) y k lt)) (all k lt))
     (λ ge.
-      let at : k ≡ length xs = omega (arith, length-push xs x) in
-      subst (λ j. P j (getD (xs ++ x ∷ []) j y)) (sym at) (subst (P (length xs)) (sym (getD-push xs x y (length xs) refl)) last))
+    let at : k ≡ length xs = omega (arith, length-push xs x) in
+    subst (λ j. P j (getD (xs ++ x ∷ []) j y)) (sym at) (subst (P (length xs)) (sym (getD-push xs x y (length xs) refl)) last))
     (cases-lt k (length xs))
 
 variables-push : (vs : List Variable) (v : Variable) → VariablesOk vs → variableOk vs v ≡ true → VariablesOk (vs ++ v ∷ [])
@@ -120,8 +126,8 @@ variables-push vs v all ok k h =
     ⊎-elim
     (λ lt. (λ i. variableOk (take-append-le k vs (v ∷ []) (omega arith) i) (getD-append-left vs (v ∷ []) noVariable k lt i)) ∙ all k lt)
     (λ ge.
-      let at : k ≡ length vs = omega (arith, length-push vs v) in
-      (λ i. variableOk (take-at vs (v ∷ []) k (sym at) i) (getD-push vs v noVariable k (sym at) i)) ∙ ok)
+    let at : k ≡ length vs = omega (arith, length-push vs v) in
+    (λ i. variableOk (take-at vs (v ∷ []) k (sym at) i) (getD-push vs v noVariable k (sym at) i)) ∙ ok)
     (cases-lt k (length vs))
 
 none-yet : {X : Type 0} {P : Type 0} (xs : List X) (k : ℕ) → xs ≡ [] → k < length xs → P
@@ -138,41 +144,53 @@ small-push d e n g is le k h =
     let long : length (d .sizes) ≡ length (d .expressions) = ap length (g .sized) ∙ tabled-length (size (d .variables)) (d .expressions) [] ∙ (omega arith) in
     subst (λ l. getD l k 0 ≤ 1000000000) s
     (table-push (λ (j m : ℕ). m ≤ 1000000000) (d .sizes) n 0 (λ j lt. subst (λ l. getD l j 0 ≤ 1000000000) (sym (g .sized)) (g .small j (omega arith))) le k
-      (omega (arith, length-push (d .sizes) n, length-push (d .expressions) e)))
+    (omega (arith, length-push (d .sizes) n, length-push (d .expressions) e)))
 
 pub good-more : (d : Said) (x : Item) → Fit d x → Good d → Good (added d x)
 good-more d (Item.Variable v) f g = record {
   few-variables = omega (arith, length-push (d .variables) v, f .0 .3);
-  few-expressions = g .few-expressions; few-statements = g .few-statements;
+  few-expressions = g .few-expressions;
+  few-statements = g .few-statements;
   variables = variables-push (d .variables) v (g .variables) (f .1);
   expressions = λ k h. none-yet (d .expressions) k (f .0 .0) h;
   sized = g .sized ∙ ap (sizes (d .variables)) (f .0 .0) ∙ sym (ap (sizes (d .variables ++ v ∷ [])) (f .0 .0));
   small = λ k h. none-yet (d .expressions) k (f .0 .0) h;
   statements = λ k h. none-yet (d .statements) k (f .0 .1) h;
   run = λ n q. absurd (clash-none (sym (f .0 .2) ∙ q));
- }
+}
 good-more d (Item.Expression e n) f g = record {
   few-variables = g .few-variables;
   few-expressions = omega (arith, length-push (d .expressions) e, f .0 .3);
-  few-statements = g .few-statements; variables = g .variables;
+  few-statements = g .few-statements;
+  variables = g .variables;
   expressions = table-push (λ k y. expressionOk (length (d .variables)) k y ≡ true) (d .expressions) e Last (g .expressions) (f .1 .0);
   sized = sizes-push d e n g (f .1 .1);
   small = small-push d e n g (f .1 .1) (f .1 .2);
   statements = λ k h. none-yet (d .statements) k (f .0 .1) h;
   run = λ m q. absurd (clash-none (sym (f .0 .2) ∙ q));
- }
+}
 good-more d (Item.Statement s) f g = record {
-  few-variables = g .few-variables; few-expressions = g .few-expressions;
+  few-variables = g .few-variables;
+  few-expressions = g .few-expressions;
   few-statements = omega (arith, length-push (d .statements) s, f .0 .2);
-  variables = g .variables; expressions = g .expressions; sized = g .sized; small = g .small;
+  variables = g .variables;
+  expressions = g .expressions;
+  sized = g .sized;
+  small = g .small;
   statements = table-push (λ k y. statementOk (length (d .variables)) (length (d .expressions)) k y ≡ true) (d .statements) s True (g .statements) (f .1);
   run = λ m q. absurd (clash-none (sym (f .0 .1) ∙ q));
- }
+}
 good-more d (Item.Run m) f g = record {
-  few-variables = g .few-variables; few-expressions = g .few-expressions; few-statements = g .few-statements;
-  variables = g .variables; expressions = g .expressions; sized = g .sized; small = g .small; statements = g .statements;
+  few-variables = g .few-variables;
+  few-expressions = g .few-expressions;
+  few-statements = g .few-statements;
+  variables = g .variables;
+  expressions = g .expressions;
+  sized = g .sized;
+  small = g .small;
+  statements = g .statements;
   run = λ n q. (let same : m ≡ n = same-some q in omega (arith, f .1 .0), f .0 .0);
- }
+}
 
 pub chain-good : (xs : List Item) (d g : Said) → Chain d xs g → Good d → Good g
 chain-good [] d g c ok = subst Good c ok

@@ -78,9 +78,10 @@ chain-variables all done [] xs g e few ok c = subst (λ l. Chain (at l [] [] [] 
 chain-variables all done (v ∷ vs) xs g e few ok c =
     let n : length all ≡ length done + length (v ∷ vs) = ap length e ∙ length-append done (v ∷ vs) in
     let is : getD all (length done) noVariable ≡ v = ap (λ l. getD l (length done) noVariable) e ∙ getD-at done v vs noVariable (length done) refl in
-    let front : take (length done) all ≡ done = ap (take (length done)) e ∙ take-at done (v ∷ vs) (length done) refl in
-    (((refl, refl, refl, omega arith), (λ i. variableOk (sym front i) (sym is i)) ∙ ok (length done) (omega arith)),
-    chain-variables all (done ++ v ∷ []) vs xs g (e ∙ sym (append-assoc done (v ∷ []) vs)) few ok c)
+    let front : take (length done) all ≡ done = ap (take (length done)) e ∙ take-at done (v ∷ vs) (length done) refl in (
+      ((refl, refl, refl, omega arith), (λ i. variableOk (sym front i) (sym is i)) ∙ ok (length done) (omega arith)),
+      chain-variables all (done ++ v ∷ []) vs xs g (e ∙ sym (append-assoc done (v ∷ []) vs)) few ok c,
+    )
 
 chain-expressions : (vs : List Variable) (all done rest : List Expression) (ns : List ℕ) (xs : List Item) (g : Said) → 0 < length vs → all ≡ done ++ rest → length ns ≡ length done → length all ≤ 200 → ExpressionsOk (length vs) all
     → ((k : ℕ) → k < length all → getD (tabled (size vs) rest ns) k 0 ≤ 1000000000) → Chain (at vs all (tabled (size vs) rest ns) [] None) xs g → Chain (at vs done ns [] None) (sizedItems vs ns rest ++ xs) g
@@ -89,19 +90,21 @@ chain-expressions vs all done (x ∷ es) ns xs g some e long few ok small c =
     let n : length all ≡ length done + length (x ∷ es) = ap length e ∙ length-append done (x ∷ es) in
     let is : getD all (length done) Last ≡ x = ap (λ l. getD l (length done) Last) e ∙ getD-at done x es Last (length done) refl in
     let here : getD (tabled (size vs) (x ∷ es) ns) (length done) 0 ≡ size vs ns x =
-      tabled-front (size vs) es (ns ++ size vs ns x ∷ []) (length done) 0 (omega (arith, length-push ns (size vs ns x))) ∙ getD-at ns (size vs ns x) [] 0 (length done) long in
-    (((some, refl, refl, omega arith), (ap (expressionOk (length vs) (length done)) (sym is) ∙ ok (length done) (omega arith), refl, omega (arith, here, small (length done) (omega arith)))),
-    chain-expressions vs all (done ++ x ∷ []) es (ns ++ size vs ns x ∷ []) xs g some (e ∙ sym (append-assoc done (x ∷ []) es))
-      (omega (arith, length-push ns (size vs ns x), length-push done x)) few ok small c)
+    tabled-front (size vs) es (ns ++ size vs ns x ∷ []) (length done) 0 (omega (arith, length-push ns (size vs ns x))) ∙ getD-at ns (size vs ns x) [] 0 (length done) long in (
+      ((some, refl, refl, omega arith), (ap (expressionOk (length vs) (length done)) (sym is) ∙ ok (length done) (omega arith), refl, omega (arith, here, small (length done) (omega arith)))),
+      chain-expressions vs all (done ++ x ∷ []) es (ns ++ size vs ns x ∷ []) xs g some (e ∙ sym (append-assoc done (x ∷ []) es))
+          (omega (arith, length-push ns (size vs ns x), length-push done x)) few ok small c,
+    )
 
 chain-statements : (vs : List Variable) (es : List Expression) (ns : List ℕ) (all done rest : List Statement) (xs : List Item) (g : Said) → 0 < length vs → all ≡ done ++ rest → length all ≤ 200 → StatementsOk (length vs) (length es) all
     → Chain (at vs es ns all None) xs g → Chain (at vs es ns done None) (map Item.Statement rest ++ xs) g
 chain-statements vs es ns all done [] xs g some e few ok c = subst (λ l. Chain (at vs es ns l None) xs g) (e ∙ append-nil done) c
 chain-statements vs es ns all done (s ∷ ss) xs g some e few ok c =
     let n : length all ≡ length done + length (s ∷ ss) = ap length e ∙ length-append done (s ∷ ss) in
-    let is : getD all (length done) True ≡ s = ap (λ l. getD l (length done) True) e ∙ getD-at done s ss True (length done) refl in
-    (((some, refl, omega arith), ap (statementOk (length vs) (length es) (length done)) (sym is) ∙ ok (length done) (omega arith)),
-    chain-statements vs es ns all (done ++ s ∷ []) ss xs g some (e ∙ sym (append-assoc done (s ∷ []) ss)) few ok c)
+    let is : getD all (length done) True ≡ s = ap (λ l. getD l (length done) True) e ∙ getD-at done s ss True (length done) refl in (
+      ((some, refl, omega arith), ap (statementOk (length vs) (length es) (length done)) (sym is) ∙ ok (length done) (omega arith)),
+      chain-statements vs es ns all (done ++ s ∷ []) ss xs g some (e ∙ sym (append-assoc done (s ∷ []) ss)) few ok c,
+    )
 
 -- all that a sheet says
 abbrev whole : Content → Said
@@ -114,7 +117,7 @@ sheet-chain : (c : Content) → Limits c → Chain nothing (items c) (whole c)
 sheet-chain c l =
     let some = l .counts .0 in
     let end : Chain (at (c .variables) (c .expressions) (sizes (c .variables) (c .expressions)) (c .statements) None) (Item.Run (c .run) ∷ []) (whole c) =
-      (((some, l .counts .3, refl), (l .run, omega (arith, l .run, l .counts .4))), refl) in
+    (((some, l .counts .3, refl), (l .run, omega (arith, l .run, l .counts .4))), refl) in
     let third = chain-statements (c .variables) (c .expressions) (sizes (c .variables) (c .expressions)) (c .statements) [] (c .statements) _ (whole c) some refl (l .counts .4) (l .statements) end in
     let second = chain-expressions (c .variables) (c .expressions) [] (c .expressions) [] _ (whole c) some refl refl (l .counts .2) (l .expressions) (l .sizes) third in
     chain-variables (c .variables) [] (c .variables) _ (whole c) refl (l .counts .1) (l .variables) second

@@ -157,10 +157,10 @@ variable-ready d v ok =
       some = omega arith;
       few = omega arith;
       read =
-        then-is _ (v .low) _ (ap (λ o. okOr o (Fault.Number 2)) (number-some 1000000 (signed (v .low)) (v .low) (omega arith) refl low))
-        ∙ then-is _ (v .high) _ (ap (λ o. okOr o (Fault.Number 3)) (number-some 1000000 (signed (v .high)) (v .high) (omega arith) refl high))
-        ∙ then-is _ (v .high) _ (cond-true (leZ (v .low) (v .high)) _ _ (s .1))
-        ∙ then-is _ (v .name) _ (then-is _ (v .name) _ (ap (λ o. okOr o (Fault.Name 1)) (name .1)) ∙ cond-false (declared (d .variables) (v .name)) _ _ (p .1));
+          then-is _ (v .low) _ (ap (λ o. okOr o (Fault.Number 2)) (number-some 1000000 (signed (v .low)) (v .low) (omega arith) refl low))
+          ∙ then-is _ (v .high) _ (ap (λ o. okOr o (Fault.Number 3)) (number-some 1000000 (signed (v .high)) (v .high) (omega arith) refl high))
+          ∙ then-is _ (v .high) _ (cond-true (leZ (v .low) (v .high)) _ _ (s .1))
+          ∙ then-is _ (v .name) _ (then-is _ (v .name) _ (ap (λ o. okOr o (Fault.Name 1)) (name .1)) ∙ cond-false (declared (d .variables) (v .name)) _ _ (p .1));
     }
 
 -- ---- lines
@@ -196,29 +196,33 @@ pub line-given : (d : Said) (x : Item) → Steady d → Fit d x → Given d x
 line-given d (Item.Variable v) st f =
     let c = f .0 in
     let r = variable-ready d v (f .1) in
-    let l = short-spaced (variableWords v) (r .plain) in
-    (line-whole d (lineText (d .variables) (Item.Variable v)) (codes "var") _ Keyword.Var (variableWords v) _ refl refl (omega (arith, r .few)) (omega arith) refl
-      (and-from _ _ (empty-eqb _ (c .0)) (and-from _ _ (empty-eqb _ (c .1)) (no-run _ (c .2)))) (lt-leb 16 _ (c .3)) (words-again (variableWords v) (omega arith) (r .plain)) (r .read),
-    lacks-spaced (variableWords v) (r .plain))
+    let l = short-spaced (variableWords v) (r .plain) in (
+      line-whole d (lineText (d .variables) (Item.Variable v)) (codes "var") _ Keyword.Var (variableWords v) _ refl refl (omega (arith, r .few)) (omega arith) refl
+          (and-from _ _ (empty-eqb _ (c .0)) (and-from _ _ (empty-eqb _ (c .1)) (no-run _ (c .2)))) (lt-leb 16 _ (c .3)) (words-again (variableWords v) (omega arith) (r .plain)) (r .read),
+      lacks-spaced (variableWords v) (r .plain),
+    )
 line-given d (Item.Expression e n) st f =
     let c = f .0 in
     let k = f .1 in
     let r = expression-ready d e n st (k .0) (k .1) (k .2) in
-    let l = short-spaced (expressionWords (d .variables) e) (r .plain) in
-    (line-whole d (lineText (d .variables) (Item.Expression e n)) (codes "expr") _ Keyword.Expr (expressionWords (d .variables) e) _ refl refl (omega (arith, r .few)) (omega arith) refl
-      (and-from _ _ (lt-ltb 0 _ (c .0)) (and-from _ _ (empty-eqb _ (c .1)) (no-run _ (c .2)))) (lt-leb 200 _ (c .3)) (words-again _ (r .some) (r .plain)) (r .read),
-    lacks-spaced (expressionWords (d .variables) e) (r .plain))
+    let l = short-spaced (expressionWords (d .variables) e) (r .plain) in (
+      line-whole d (lineText (d .variables) (Item.Expression e n)) (codes "expr") _ Keyword.Expr (expressionWords (d .variables) e) _ refl refl (omega (arith, r .few)) (omega arith) refl
+          (and-from _ _ (lt-ltb 0 _ (c .0)) (and-from _ _ (empty-eqb _ (c .1)) (no-run _ (c .2)))) (lt-leb 200 _ (c .3)) (words-again _ (r .some) (r .plain)) (r .read),
+      lacks-spaced (expressionWords (d .variables) e) (r .plain),
+    )
 line-given d (Item.Statement s) st f =
     let c = f .0 in
     let r = statement-ready d s st (f .1) in
-    let l = short-spaced (statementWords (d .variables) s) (r .plain) in
-    (line-whole d (lineText (d .variables) (Item.Statement s)) (codes "stmt") _ Keyword.Stmt (statementWords (d .variables) s) _ refl refl (omega (arith, r .few)) (omega arith) refl
-      (and-from _ _ (lt-ltb 0 _ (c .0)) (no-run _ (c .1))) (lt-leb 200 _ (c .2)) (words-again _ (r .some) (r .plain)) (r .read),
-    lacks-spaced (statementWords (d .variables) s) (r .plain))
+    let l = short-spaced (statementWords (d .variables) s) (r .plain) in (
+      line-whole d (lineText (d .variables) (Item.Statement s)) (codes "stmt") _ Keyword.Stmt (statementWords (d .variables) s) _ refl refl (omega (arith, r .few)) (omega arith) refl
+          (and-from _ _ (lt-ltb 0 _ (c .0)) (no-run _ (c .1))) (lt-leb 200 _ (c .2)) (words-again _ (r .some) (r .plain)) (r .read),
+      lacks-spaced (statementWords (d .variables) s) (r .plain),
+    )
 line-given d (Item.Run n) st f =
     let c = f .0 in
     let w = plain-decimal n (f .1 .1) in
-    let low : ltb n (length (d .statements)) ≡ true = lt-ltb n _ (f .1 .0) in
-    (line-whole d (lineText (d .variables) (Item.Run n)) (codes "run") _ Keyword.Run (decimal n ∷ []) _ refl refl (omega (arith, w .short)) (omega arith) refl
-      (and-from _ _ (lt-ltb 0 _ (c .0)) (lt-ltb 0 _ (c .1))) (ap isSome (c .2)) (words-again (decimal n ∷ []) (omega arith) (w, tt)) (run-read d n low (f .1 .1)),
-    w .end)
+    let low : ltb n (length (d .statements)) ≡ true = lt-ltb n _ (f .1 .0) in (
+      line-whole d (lineText (d .variables) (Item.Run n)) (codes "run") _ Keyword.Run (decimal n ∷ []) _ refl refl (omega (arith, w .short)) (omega arith) refl
+          (and-from _ _ (lt-ltb 0 _ (c .0)) (lt-ltb 0 _ (c .1))) (ap isSome (c .2)) (words-again (decimal n ∷ []) (omega arith) (w, tt)) (run-read d n low (f .1 .1)),
+      w .end,
+    )

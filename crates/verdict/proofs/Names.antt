@@ -66,8 +66,8 @@ name-ok w n q =
     let b : sameBytes (n .letters) (named (spelled n) .letters) ≡ true = sameBytes-decides (n .letters) (named (spelled n) .letters) .1 (ap (λ (m : Name). m .letters) (sym (p .1) ∙ ap named (sym e))) in
     both a b
   where
-  both : {a b : Bool} → a ≡ true → b ≡ true → (a && b) ≡ true
-  both p q = cc
+    both : {a b : Bool} → a ≡ true → b ≡ true → (a && b) ≡ true
+    both p q = cc
 
 -- ---- the first item that passes a test
 later-some : (o : Option ℕ) (k : ℕ) → later o ≡ Some k → (j : ℕ) × (o ≡ Some j) × (k ≡ suc j)
@@ -78,12 +78,12 @@ place-found : {X : Type 0} (t : X → Bool) (xs : List X) (d : X) (k : ℕ) → 
 place-found t [] d k q = absurd (clash-none q)
 place-found t (x ∷ xs) d k q = go (t x) refl (λ j. place-found t xs d j) q
   where
-  go : (b : Bool) → t x ≡ b → ((j : ℕ) → placeBy t xs ≡ Some j → (j < length xs) × (t (getD xs j d) ≡ true)) → cond b (Some 0) (later (placeBy t xs)) ≡ Some k → (k < length (x ∷ xs)) × (t (getD (x ∷ xs) k d) ≡ true)
-  go true e rec r = let z : 0 ≡ k = same-some r in subst (λ n. (n < length (x ∷ xs)) × (t (getD (x ∷ xs) n d) ≡ true)) z (omega arith, e)
-  go false e rec r =
-      let j = later-some (placeBy t xs) k r in
-      let f = rec (j .0) (j .1) in
-      subst (λ n. (n < length (x ∷ xs)) × (t (getD (x ∷ xs) n d) ≡ true)) (sym (j .2)) (omega (arith, f .0), f .1)
+    go : (b : Bool) → t x ≡ b → ((j : ℕ) → placeBy t xs ≡ Some j → (j < length xs) × (t (getD xs j d) ≡ true)) → cond b (Some 0) (later (placeBy t xs)) ≡ Some k → (k < length (x ∷ xs)) × (t (getD (x ∷ xs) k d) ≡ true)
+    go true e rec r = let z : 0 ≡ k = same-some r in subst (λ n. (n < length (x ∷ xs)) × (t (getD (x ∷ xs) n d) ≡ true)) z (omega arith, e)
+    go false e rec r =
+        let j = later-some (placeBy t xs) k r in
+        let f = rec (j .0) (j .1) in
+        subst (λ n. (n < length (x ∷ xs)) × (t (getD (x ∷ xs) n d) ≡ true)) (sym (j .2)) (omega (arith, f .0), f .1)
 
 -- where none of the items before passes
 place-at : {X : Type 0} (t : X → Bool) (xs : List X) (d : X) (k : ℕ) → k < length xs → t (getD xs k d) ≡ true → isSome (placeBy t (take k xs)) ≡ false → placeBy t xs ≡ Some k
@@ -91,23 +91,24 @@ place-at t [] d k h e n = absurd (omega arith)
 place-at t (x ∷ xs) d zero h e n = cond-true (t x) _ _ e
 place-at t (x ∷ xs) d (suc k) h e n = go (t x) refl (place-at t xs d k (omega arith) e) n
   where
-  gone : (o : Option ℕ) → isSome (later o) ≡ false → isSome o ≡ false
-  gone None e = refl
-  gone (Some j) e = e
-  go : (b : Bool) → t x ≡ b → (isSome (placeBy t (take k xs)) ≡ false → placeBy t xs ≡ Some k) → isSome (cond b (Some 0) (later (placeBy t (take k xs)))) ≡ false → cond (t x) (Some 0) (later (placeBy t xs)) ≡ Some (suc k)
-  go true f rec m = absurd (let z : _≡_ {A = ℕ} 0 1 = cc in omega arith)
-  go false f rec m = cond-false (t x) _ _ f ∙ ap later (rec (gone (placeBy t (take k xs)) m))
+    gone : (o : Option ℕ) → isSome (later o) ≡ false → isSome o ≡ false
+    gone None e = refl
+    gone (Some j) e = e
+
+    go : (b : Bool) → t x ≡ b → (isSome (placeBy t (take k xs)) ≡ false → placeBy t xs ≡ Some k) → isSome (cond b (Some 0) (later (placeBy t (take k xs)))) ≡ false → cond (t x) (Some 0) (later (placeBy t xs)) ≡ Some (suc k)
+    go true f rec m = absurd (let z : _≡_ {A = ℕ} 0 1 = cc in omega arith)
+    go false f rec m = cond-false (t x) _ _ f ∙ ap later (rec (gone (placeBy t (take k xs)) m))
 
 -- ---- the variable that a word names
 pub variable-is : (d : Said) (w : List ℕ) (k : ℕ) → numberBy d (nameOf w) ≡ Some k → (w ≡ nameAt (d .variables) k) × (k < length (d .variables))
 variable-is d w k q = go (nameOf w) refl q
   where
-  go : (o : Option Name) → nameOf w ≡ o → numberBy d o ≡ Some k → (w ≡ nameAt (d .variables) k) × (k < length (d .variables))
-  go None e r = absurd (clash-none r)
-  go (Some n) e r =
-      let f = place-found (λ (v : Variable). sameBytes (v .name .letters) (n .letters)) (d .variables) noVariable k r in
-      let same = sameBytes-decides (variableAt (d .variables) k .name .letters) (n .letters) .0 (f .1) in
-      (name-is w n e .2 ∙ ap (before 0) (sym same), f .0)
+    go : (o : Option Name) → nameOf w ≡ o → numberBy d o ≡ Some k → (w ≡ nameAt (d .variables) k) × (k < length (d .variables))
+    go None e r = absurd (clash-none r)
+    go (Some n) e r =
+        let f = place-found (λ (v : Variable). sameBytes (v .name .letters) (n .letters)) (d .variables) noVariable k r in
+        let same = sameBytes-decides (variableAt (d .variables) k .name .letters) (n .letters) .0 (f .1) in
+        (name-is w n e .2 ∙ ap (before 0) (sym same), f .0)
 
 -- what a variable of a lawful sheet keeps
 pub variable-parts : (vs : List Variable) (v : Variable) → variableOk vs v ≡ true → (nameOk (v .name) ≡ true) × (declared vs (v .name) ≡ false)

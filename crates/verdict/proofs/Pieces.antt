@@ -61,7 +61,7 @@ plain-decimal n h = record {
   space = lacks-decimal 32 n (omega arith) (omega arith);
   end = lacks-decimal 10 n (omega arith) (omega arith);
   short = omega (arith, length-decimal-le 3 n (omega arith) (omega arith) (omega arith));
- }
+}
 
 signed-short : (z : ℤ) → natAbs z ≤ 1000000 → length (signed z) ≤ 8
 signed-short (pos n) h = omega (arith, length-decimal-le 7 n (omega arith) (omega arith) (omega arith))
@@ -72,7 +72,7 @@ plain-signed z h = record {
   space = lacks-signed 32 z (omega arith) (omega arith);
   end = lacks-signed 10 z (omega arith) (omega arith);
   short = omega (arith, signed-short z h);
- }
+}
 
 pub plain-letters : (w : List ℕ) → letters w ≡ true → length w ≤ 12 → Plain w
 plain-letters w e h = record { space = lacks-letters 32 w (omega arith) e; end = lacks-letters 10 w (omega arith) e; short = h }
@@ -125,29 +125,29 @@ pub spaced-parted : (bs : List ℕ) → spaced (parted 32 bs) ≡ bs
 spaced-parted [] = refl
 spaced-parted (b ∷ bs) = go (eqb b 32) refl (spaced-parted bs)
   where
-  go : (t : Bool) → eqb b 32 ≡ t → spaced (parted 32 bs) ≡ bs → spaced (cond t ([] ∷ parted 32 bs) (onto b (parted 32 bs))) ≡ b ∷ bs
-  go true e r = spaced-nil 32 bs ∙ (λ i. sym (eqb-true b 32 e) i ∷ r i)
-  go false e r = spaced-onto b (parted 32 bs) ∙ ap (λ l. b ∷ l) r
+    go : (t : Bool) → eqb b 32 ≡ t → spaced (parted 32 bs) ≡ bs → spaced (cond t ([] ∷ parted 32 bs) (onto b (parted 32 bs))) ≡ b ∷ bs
+    go true e r = spaced-nil 32 bs ∙ (λ i. sym (eqb-true b 32 e) i ∷ r i)
+    go false e r = spaced-onto b (parted 32 bs) ∙ ap (λ l. b ∷ l) r
 
 -- lines cut apart are put together again
 pub ended-parted : (bs : List ℕ) → joined ended (parted 10 bs) ≡ bs ++ 10 ∷ []
 ended-parted [] = refl
 ended-parted (b ∷ bs) = go (eqb b 10) refl (ended-parted bs)
   where
-  go : (t : Bool) → eqb b 10 ≡ t → joined ended (parted 10 bs) ≡ bs ++ 10 ∷ [] → joined ended (cond t ([] ∷ parted 10 bs) (onto b (parted 10 bs))) ≡ b ∷ (bs ++ 10 ∷ [])
-  go true e r = λ i. sym (eqb-true b 10 e) i ∷ r i
-  go false e r =
-      let cut = parted-cut 10 bs in
-      ap (λ ws. joined ended (onto b ws)) cut ∙ ap (λ ws. b ∷ joined ended ws) (sym cut) ∙ ap (λ l. b ∷ l) r
+    go : (t : Bool) → eqb b 10 ≡ t → joined ended (parted 10 bs) ≡ bs ++ 10 ∷ [] → joined ended (cond t ([] ∷ parted 10 bs) (onto b (parted 10 bs))) ≡ b ∷ (bs ++ 10 ∷ [])
+    go true e r = λ i. sym (eqb-true b 10 e) i ∷ r i
+    go false e r =
+        let cut = parted-cut 10 bs in
+        ap (λ ws. joined ended (onto b ws)) cut ∙ ap (λ ws. b ∷ joined ended ws) (sym cut) ∙ ap (λ l. b ∷ l) r
 
 -- a line's key and value
 pub key-split : (c : ℕ) (bs : List ℕ) → (length (before c bs) ≡ length bs → ⊥) → bs ≡ before c bs ++ c ∷ after c bs
 key-split c [] h = absurd (h refl)
 key-split c (b ∷ bs) h = go (eqb b c) refl h (key-split c bs)
   where
-  go : (t : Bool) → eqb b c ≡ t → (length (cond t [] (b ∷ before c bs)) ≡ suc (length bs) → ⊥) → ((length (before c bs) ≡ length bs → ⊥) → bs ≡ before c bs ++ c ∷ after c bs) → b ∷ bs ≡ cond t [] (b ∷ before c bs) ++ c ∷ cond t bs (after c bs)
-  go true e k r = ap (λ x. x ∷ bs) (eqb-true b c e)
-  go false e k r = ap (λ l. b ∷ l) (r (λ q. k (ap suc q)))
+    go : (t : Bool) → eqb b c ≡ t → (length (cond t [] (b ∷ before c bs)) ≡ suc (length bs) → ⊥) → ((length (before c bs) ≡ length bs → ⊥) → bs ≡ before c bs ++ c ∷ after c bs) → b ∷ bs ≡ cond t [] (b ∷ before c bs) ++ c ∷ cond t bs (after c bs)
+    go true e k r = ap (λ x. x ∷ bs) (eqb-true b c e)
+    go false e k r = ap (λ l. b ∷ l) (r (λ q. k (ap suc q)))
 
 -- the word ahead of a byte that it lacks
 pub before-lacks : (c : ℕ) (w bs : List ℕ) → lacks c w ≡ true → before c (w ++ c ∷ bs) ≡ w

@@ -59,13 +59,16 @@ line-refuses n d l ls x Refusal.Unended e f = f
 line-refuses n d l ls x Refusal.Header e f = f
 line-refuses n d l ls x (Refusal.Line m g) e f =
     let a = f .2 in
-    let j = f .0 in
-    (suc j, omega (arith, f .1), record {
-      there = omega (arith, a .there);
-      earlier = faultless-more d l ls x j e (a .earlier);
-      fault = ap (λ r. fits (heard (plus d r) (take j ls)) (getD ls j []) g) e ∙ a .fault;
-      smaller = λ h b. ap (λ r. fits (heard (plus d r) (take j ls)) (getD ls j []) h) e ∙ a .smaller h b;
-    })
+    let j = f .0 in (
+      suc j,
+      omega (arith, f .1),
+      record {
+        there = omega (arith, a .there);
+        earlier = faultless-more d l ls x j e (a .earlier);
+        fault = ap (λ r. fits (heard (plus d r) (take j ls)) (getD ls j []) g) e ∙ a .fault;
+        smaller = λ h b. ap (λ r. fits (heard (plus d r) (take j ls)) (getD ls j []) h) e ∙ a .smaller h b;
+      },
+    )
 line-refuses n d l ls x (Refusal.NoRun m) e f =
     (omega (arith, f .0), faultless-more d l ls x (length ls) e (f .1), ap (λ (r : Result Item Fault). heard (plus d r) ls .run) e ∙ f .2)
 
@@ -73,11 +76,11 @@ lines-refuse : (ls : List (List ℕ)) (n : ℕ) (d : Said) (r : Refusal) → lin
 lines-refuse [] n d r q = end-refuses n d (d .run) r refl q
 lines-refuse (l ∷ ls) n d r q = go (lineOf d l) refl (λ x. lines-refuse ls (n + 1) (added d x) r) q
   where
-  go : (o : Result Item Fault) → lineOf d l ≡ o → ((x : Item) → linesOf (n + 1) (added d x) ls ≡ Err r → Refuses (n + 1) (added d x) ls r) → onLine n o (λ x. linesOf (n + 1) (added d x) ls) ≡ Err r → Refuses n d (l ∷ ls) r
-  go (Ok x) e rec p = line-refuses n d l ls x r e (rec x p)
-  go (Err f) e rec p =
-      let t = first-fault d l .0 f e in
-      subst (Refuses n d (l ∷ ls)) (same-err p) (0, omega arith, record { there = omega arith; earlier = λ i h. absurd (omega arith); fault = t .0; smaller = t .1 })
+    go : (o : Result Item Fault) → lineOf d l ≡ o → ((x : Item) → linesOf (n + 1) (added d x) ls ≡ Err r → Refuses (n + 1) (added d x) ls r) → onLine n o (λ x. linesOf (n + 1) (added d x) ls) ≡ Err r → Refuses n d (l ∷ ls) r
+    go (Ok x) e rec p = line-refuses n d l ls x r e (rec x p)
+    go (Err f) e rec p =
+        let t = first-fault d l .0 f e in
+        subst (Refuses n d (l ∷ ls)) (same-err p) (0, omega arith, record { there = omega arith; earlier = λ i h. absurd (omega arith); fault = t .0; smaller = t .1 })
 
 -- the reasons below the first line are those of the text
 lift : (text l : List ℕ) (ls : List (List ℕ)) (r : Refusal) → Sized text → lastByte text ≡ 10 → linesIn text ≡ l ∷ ls → l ≡ codes "sheet=2" → Refuses 2 nothing ls r → Grounds text r
@@ -95,22 +98,23 @@ headed-refuses : (text : List ℕ) (ls : List (List ℕ)) (r : Refusal) → Size
 headed-refuses text [] r s b e q = absurd (parted-some 10 (body text) e)
 headed-refuses text (l ∷ ls) r s b e q = go (sameBytes l (codes "sheet=2")) refl q
   where
-  go : (t : Bool) → sameBytes l (codes "sheet=2") ≡ t → cond t (linesOf 2 nothing ls) (Err Refusal.Header) ≡ Err r → Grounds text r
-  go true h p = lift text l ls r s b e (sameBytes-decides l (codes "sheet=2") .0 h) (lines-refuse ls 2 nothing r p)
-  go false h p =
-      subst (Grounds text) (same-err p)
-      (s, b, λ z. let same : sameBytes l (codes "sheet=2") ≡ true = sameBytes-decides l (codes "sheet=2") .1 (sym (ap (λ ws. getD ws 0 []) e) ∙ z) in apart (sym same ∙ h))
-    where
-    apart : _≡_ {A = Bool} true false → ⊥
-    apart x = let y : _≡_ {A = ℕ} 0 1 = cc in omega arith
+    go : (t : Bool) → sameBytes l (codes "sheet=2") ≡ t → cond t (linesOf 2 nothing ls) (Err Refusal.Header) ≡ Err r → Grounds text r
+    go true h p = lift text l ls r s b e (sameBytes-decides l (codes "sheet=2") .0 h) (lines-refuse ls 2 nothing r p)
+    go false h p =
+        subst (Grounds text) (same-err p)
+        (s, b, λ z. let same : sameBytes l (codes "sheet=2") ≡ true = sameBytes-decides l (codes "sheet=2") .1 (sym (ap (λ ws. getD ws 0 []) e) ∙ z) in apart (sym same ∙ h))
+      where
+        apart : _≡_ {A = Bool} true false → ⊥
+        apart x = let y : _≡_ {A = ℕ} 0 1 = cc in omega arith
 
 pub refused : (text : List ℕ) (r : Refusal) → verdict text ≡ Err r → Grounds text r
 refused text r q = go (eqb (length text) 0) (ltb 16384 (length text)) refl refl q
   where
-  ends : (t : Bool) → eqb (lastByte text) 10 ≡ t → Sized text → cond t (headed (parted 10 (body text))) (Err Refusal.Unended) ≡ Err r → Grounds text r
-  ends true e s p = headed-refuses text (linesIn text) r s (eqb-true _ 10 e) refl p
-  ends false e s p = subst (Grounds text) (same-err p) (s, eqb-false _ 10 e)
-  go : (a b : Bool) → eqb (length text) 0 ≡ a → ltb 16384 (length text) ≡ b → cond (a || b) (Err Refusal.Length) (cond (eqb (lastByte text) 10) (headed (parted 10 (body text))) (Err Refusal.Unended)) ≡ Err r → Grounds text r
-  go true b e f p = subst (Grounds text) (same-err p) (inl (eqb-true (length text) 0 e))
-  go false true e f p = subst (Grounds text) (same-err p) (inr (ltb-true 16384 (length text) f))
-  go false false e f p = ends (eqb (lastByte text) 10) refl (omega (arith, eqb-false (length text) 0 e), ltb-false 16384 (length text) f) p
+    ends : (t : Bool) → eqb (lastByte text) 10 ≡ t → Sized text → cond t (headed (parted 10 (body text))) (Err Refusal.Unended) ≡ Err r → Grounds text r
+    ends true e s p = headed-refuses text (linesIn text) r s (eqb-true _ 10 e) refl p
+    ends false e s p = subst (Grounds text) (same-err p) (s, eqb-false _ 10 e)
+
+    go : (a b : Bool) → eqb (length text) 0 ≡ a → ltb 16384 (length text) ≡ b → cond (a || b) (Err Refusal.Length) (cond (eqb (lastByte text) 10) (headed (parted 10 (body text))) (Err Refusal.Unended)) ≡ Err r → Grounds text r
+    go true b e f p = subst (Grounds text) (same-err p) (inl (eqb-true (length text) 0 e))
+    go false true e f p = subst (Grounds text) (same-err p) (inr (ltb-true 16384 (length text) f))
+    go false false e f p = ends (eqb (lastByte text) 10) refl (omega (arith, eqb-false (length text) 0 e), ltb-false 16384 (length text) f) p

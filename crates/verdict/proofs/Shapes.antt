@@ -91,9 +91,9 @@ module _ {X : Type 0} (word : X → List ℕ) (arity : X → ℕ) (n : ℕ) (w :
   find-more : (y : X) (rest : Option X) → arity y ≡ n → Finds word arity n w rest → Finds word arity n w (when w (word y) (Some y) rest)
   find-more y rest e f x q = go (sameBytes w (word y)) refl q
     where
-    go : (b : Bool) → sameBytes w (word y) ≡ b → cond b (Some y) rest ≡ Some x → Named word arity n w x
-    go true t r = subst (Named word arity n w) (same-some r) (record { word-is = sameBytes-decides w (word y) .0 t; arity-is = e })
-    go false t r = f x r
+      go : (b : Bool) → sameBytes w (word y) ≡ b → cond b (Some y) rest ≡ Some x → Named word arity n w x
+      go true t r = subst (Named word arity n w) (same-some r) (record { word-is = sameBytes-decides w (word y) .0 t; arity-is = e })
+      go false t r = f x r
 
 pub bare-statement : (w : List ℕ) → Finds statementWord statementArity 0 w (bareStatement w)
 bare-statement w =

@@ -85,7 +85,10 @@ head-ran text [] c some short whole e q = absurd (clash q)
 head-ran text (l ∷ ls) c some short whole e q =
     let p = if-ok (sameBytes l (codes "sheet=2")) (linesOf 2 nothing ls) Refusal.Header c q in
     record {
-      some = some; short = short; whole = whole; rest = ls;
+      some = some;
+      short = short;
+      whole = whole;
+      rest = ls;
       cut = e ∙ ap (λ w. w ∷ ls) (sameBytes-decides l (codes "sheet=2") .0 (p .0));
       ran = lines-ran ls 2 nothing c good-start (p .1);
     }
@@ -121,5 +124,11 @@ sound text c q =
     let n = g .run (r .start) (r .run) in
     let kept : length (writing (sheetOf (r .last) (r .start))) ≤ 16384 → Limits (sheetOf (r .last) (r .start)) = λ short. record {
       counts = (n .1, g .few-variables, g .few-expressions, omega (arith, n .0), g .few-statements);
-      variables = g .variables; expressions = g .expressions; sizes = g .small; statements = g .statements; run = n .0; text = short } in
+      variables = g .variables;
+      expressions = g .expressions;
+      sizes = g .small;
+      statements = g .statements;
+      run = n .0;
+      text = short;
+    } in
     (is, subst Limits (r .sheet) (kept (omega (arith, h .short, ap length is, ap (λ y. length (writing y)) (r .sheet)))))

@@ -94,11 +94,13 @@ variable-says d (n ∷ a ∷ b ∷ []) x q =
     let read : nameOf n ≡ Some (u .0) = or-ok (nameOf n) (Fault.Name 1) (u .0) (u .1) in
     let e : r .0 ≡ s .0 = same-ok (up .1) in
     let f : u .0 ≡ t .0 = same-ok (new .1) in
-    let bounds : natAbs (s .0) ≤ 1000000 = subst (λ (y : ℤ). natAbs y ≤ 1000000) e (high .1) in
-    (record { name = t .0; low = p .0; high = s .0 }, sym (same-ok (t .2)),
+    let bounds : natAbs (s .0) ≤ 1000000 = subst (λ (y : ℤ). natAbs y ≤ 1000000) e (high .1) in (
+      record { name = t .0; low = p .0; high = s .0 },
+      sym (same-ok (t .2)),
       (λ i. (name-is n (u .0) read .2 ∙ ap spelled f) i ∷ low .0 i ∷ (high .0 ∙ ap signed e) i ∷ []),
       and-from _ _ (ap nameOk (sym f) ∙ name-ok n (u .0) read) (and-from _ _ (not-from-false _ (ap (declared (d .variables)) (sym f) ∙ new .0))
-      (and-from _ _ (le-leb _ _ (low .1)) (and-from _ _ (le-leb _ _ bounds) (ap (leZ (p .0)) (sym e) ∙ up .0)))))
+          (and-from _ _ (le-leb _ _ (low .1)) (and-from _ _ (le-leb _ _ bounds) (ap (leZ (p .0)) (sym e) ∙ up .0)))),
+    )
 
 -- ---- an expression's words
 abbrev Expresses : Said → List (List ℕ) → Item → Type 0
@@ -130,9 +132,9 @@ expression-says d [] x q = absurd (clash q)
 expression-says d (w ∷ []) x q = expression-by d (bareExpression w) 0 w [] [] [] x (λ m. omega arith) (bare-expression w) q
 expression-says d (w ∷ a ∷ []) x q = go (sameBytes w (codes "num")) refl q
   where
-  go : (t : Bool) → sameBytes w (codes "num") ≡ t → cond t (constant d a) (expressionBy d (singleExpression w) a [] []) ≡ Ok x → Expresses d (w ∷ a ∷ []) x
-  go true e r = constant-says d w a x (sameBytes-decides w (codes "num") .0 e) r
-  go false e r = expression-by d (singleExpression w) 1 w a [] [] x (λ m. omega arith) (single-expression w) r
+    go : (t : Bool) → sameBytes w (codes "num") ≡ t → cond t (constant d a) (expressionBy d (singleExpression w) a [] []) ≡ Ok x → Expresses d (w ∷ a ∷ []) x
+    go true e r = constant-says d w a x (sameBytes-decides w (codes "num") .0 e) r
+    go false e r = expression-by d (singleExpression w) 1 w a [] [] x (λ m. omega arith) (single-expression w) r
 expression-says d (w ∷ a ∷ b ∷ []) x q = expression-by d (doubleExpression w) 2 w a b [] x (λ m. omega arith) (double-expression w) q
 expression-says d (w ∷ a ∷ b ∷ c ∷ ws) x q = absurd (clash q)
 
@@ -145,10 +147,12 @@ statement-by d None n w a b c x f q = absurd (clash q)
 statement-by d (Some s) n w a b c x f q =
     let p = then-ok (operands d (statementRoles s) a b c) _ x q in
     let t = operands-say d (statementRoles s) a b c (p .0) (p .1) in
-    let k = f s refl in
-    (statementWith s (p .0), sym (same-ok (p .2)),
+    let k = f s refl in (
+      statementWith s (p .0),
+      sym (same-ok (p .2)),
       (λ i. k .word-is i ∷ take (sym (k .arity-is) i) (a ∷ b ∷ c ∷ [])) ∙ statement-words d s a b c (p .0) t,
-      statement-ok d s (p .0) (says-ok d _ a _ (t .first)) (says-ok d _ b _ (t .second)) (says-ok d _ c _ (t .third)))
+      statement-ok d s (p .0) (says-ok d _ a _ (t .first)) (says-ok d _ b _ (t .second)) (says-ok d _ c _ (t .third)),
+    )
 
 statement-says : (d : Said) (ws : List (List ℕ)) (x : Item) → statementOf d ws ≡ Ok x → States d ws x
 statement-says d [] x q = absurd (clash q)

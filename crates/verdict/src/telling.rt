@@ -37,7 +37,8 @@ fn fault_reason(fault: Fault) -> &'static str
 {
     match fault {
         Fault::Long => "This line has more than 64 characters.",
-        Fault::Key => "This line's key is missing, unknown or out of order; the order is sheet, var, expr, stmt, run.",
+        Fault::Key =>
+            "This line's key is missing, unknown or out of order; the order is sheet, var, expr, stmt, run.",
         Fault::Many => "There is one line too many with this key.",
         Fault::Form => "The operation is unknown, or the line has too few or too many words.",
         Fault::Number(_) => "This word must be a plain number within its limits.",
@@ -88,7 +89,8 @@ impl Refusal {
     {
         match self {
             Refusal::Length => "The sheet is empty or has more than 16384 bytes.",
-            Refusal::Unended => "The sheet does not end with a line end; add one after the last line.",
+            Refusal::Unended =>
+                "The sheet does not end with a line end; add one after the last line.",
             Refusal::Header => "The first line must be exactly: sheet=2",
             Refusal::Line(_, fault) => fault_reason(fault),
             Refusal::NoRun(_) => "The sheet ends without a run line.",

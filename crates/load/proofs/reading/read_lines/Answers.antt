@@ -18,11 +18,10 @@ loop-line-again c =
     let h = c .in-Some .ensures tt .cases in
     let same = c .in-Some .ensures tt .text in
     let long = ap (λ (r : RefT (List ℕ)). length (r .now)) same in
-    let text = ap (λ (r : RefT (List ℕ)). left 10 (r .now) (c .line .last .self .place)) same in
-    (
+    let text = ap (λ (r : RefT (List ℕ)). left 10 (r .now) (c .line .last .self .place)) same in (
       turn (c .loop-line .n) d (said (c .add .last .self)) (c .in-Some .line .now) _ _ (c .in-Ok .item) (c .in-Ok .ensures tt) (c .add .ensures) (h .1 ∙ ap (λ ls. c .in-Some .line .now ∷ ls) (sym text)) ∙ c .loop-line .inv .0,
       same ∙ c .loop-line .inv .1,
       still-good d (said (c .add .last .self)) (c .in-Some .line .now) (c .in-Ok .item) (c .loop-line .inv .2) (c .in-Ok .ensures tt) (c .add .ensures),
       omega (arith, h .2, c .loop-line .inv .3),
-      omega (arith, h .3, long)
+      omega (arith, h .3, long),
     )

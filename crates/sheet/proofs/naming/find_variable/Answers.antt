@@ -8,4 +8,4 @@ pub returns : need.returns
 returns c = record {
   value = first-named _ _ _ (c .first-place .ensures);
   bound = place-within (λ (x y : Variable). by-name x y ≡ Same) _ _ _ (c .first-place .ensures);
- }
+}
