@@ -8,7 +8,7 @@ use sheet::Operator;
 use sheet::Statement;
 use text::same;
 
-pub fn keyword(word: &[u8]) -> Keyword
+pub(crate) fn keyword(word: &[u8]) -> Keyword
     ensures { λ r. ⌜ r ≡ keywordOf (now (word .entry)) ⌝ }
 {
     if same(word, b"stmt") {
@@ -27,7 +27,7 @@ pub fn keyword(word: &[u8]) -> Keyword
 }
 
 // The expression with no operand that a word names.
-pub fn bare_expression(word: &[u8]) -> Option<Expression>
+pub(crate) fn bare_expression(word: &[u8]) -> Option<Expression>
     ensures { λ r. ⌜ r ≡ bareExpression (now (word .entry)) ⌝ }
 {
     if same(word, b"last") {
@@ -38,7 +38,7 @@ pub fn bare_expression(word: &[u8]) -> Option<Expression>
 }
 
 // The expression with one operand that a word names.
-pub fn single_expression(word: &[u8]) -> Option<Expression>
+pub(crate) fn single_expression(word: &[u8]) -> Option<Expression>
     ensures { λ r. ⌜ r ≡ singleExpression (now (word .entry)) ⌝ }
 {
     if same(word, b"val") {
@@ -51,7 +51,7 @@ pub fn single_expression(word: &[u8]) -> Option<Expression>
 }
 
 // The expression with two operands that a word names.
-pub fn double_expression(word: &[u8]) -> Option<Expression>
+pub(crate) fn double_expression(word: &[u8]) -> Option<Expression>
     ensures { λ r. ⌜ r ≡ doubleExpression (now (word .entry)) ⌝ }
 {
     if same(word, b"add") {
@@ -74,7 +74,7 @@ pub fn double_expression(word: &[u8]) -> Option<Expression>
 }
 
 // The statement with no operand that a word names.
-pub fn bare_statement(word: &[u8]) -> Option<Statement>
+pub(crate) fn bare_statement(word: &[u8]) -> Option<Statement>
     ensures { λ r. ⌜ r ≡ bareStatement (now (word .entry)) ⌝ }
 {
     if same(word, b"true") {
@@ -91,7 +91,7 @@ pub fn bare_statement(word: &[u8]) -> Option<Statement>
 }
 
 // The statement with one operand that a word names.
-pub fn single_statement(word: &[u8]) -> Option<Statement>
+pub(crate) fn single_statement(word: &[u8]) -> Option<Statement>
     ensures { λ r. ⌜ r ≡ singleStatement (now (word .entry)) ⌝ }
 {
     if same(word, b"next") {
@@ -110,7 +110,7 @@ pub fn single_statement(word: &[u8]) -> Option<Statement>
 }
 
 // The statement with two operands that a word names.
-pub fn double_statement(word: &[u8]) -> Option<Statement>
+pub(crate) fn double_statement(word: &[u8]) -> Option<Statement>
     ensures { λ r. ⌜ r ≡ doubleStatement (now (word .entry)) ⌝ }
 {
     if same(word, b"is") {
@@ -131,7 +131,7 @@ pub fn double_statement(word: &[u8]) -> Option<Statement>
 }
 
 // The statement with three operands that a word names.
-pub fn triple_statement(word: &[u8]) -> Option<Statement>
+pub(crate) fn triple_statement(word: &[u8]) -> Option<Statement>
     ensures { λ r. ⌜ r ≡ tripleStatement (now (word .entry)) ⌝ }
 {
     if same(word, b"if") {

@@ -12,7 +12,7 @@ use crate::items::Roles;
 const MOST_OPERAND: u32 = 199;
 
 // The number that an operand's word writes.
-pub fn read_numeral(at: u8, role: Role, word: &[u8]) -> Result<u16, Fault>
+pub(crate) fn read_numeral(at: u8, role: Role, word: &[u8]) -> Result<u16, Fault>
     ensures { λ r. ⌜ r ≡ numeral at role (now (word .entry)) ⌝ }
 {
     match role {
@@ -25,7 +25,7 @@ pub fn read_numeral(at: u8, role: Role, word: &[u8]) -> Result<u16, Fault>
 }
 
 // The number of the variable that a word names, where the word is to name one.
-pub fn resolve(draft: &Draft, at: u8, role: Role, word: &[u8], n: u16) -> Result<u16, Fault>
+pub(crate) fn resolve(draft: &Draft, at: u8, role: Role, word: &[u8], n: u16) -> Result<u16, Fault>
     ensures { λ r. ⌜ r ≡ resolved (said (now (draft .entry))) at role (now (word .entry)) n ⌝ }
 {
     match role {
@@ -43,7 +43,7 @@ pub fn resolve(draft: &Draft, at: u8, role: Role, word: &[u8], n: u16) -> Result
 }
 
 // The number again, where an expression or a statement has it.
-pub fn look_there(draft: &Draft, at: u8, role: Role, n: u16) -> Result<u16, Fault>
+pub(crate) fn look_there(draft: &Draft, at: u8, role: Role, n: u16) -> Result<u16, Fault>
     ensures { λ r. ⌜ r ≡ there (said (now (draft .entry))) at role n ⌝ }
 {
     let count = match role {
@@ -59,7 +59,7 @@ pub fn look_there(draft: &Draft, at: u8, role: Role, n: u16) -> Result<u16, Faul
 }
 
 // The operands in the second, third and fourth word of a line.
-pub fn read_operands(
+pub(crate) fn read_operands(
     draft: &Draft,
     roles: Roles,
     a: &[u8],

@@ -28,7 +28,7 @@ fn one(first: Role) -> Roles
 }
 
 // What the operands of an expression stand for.
-pub fn expression_roles(e: Expression) -> Roles
+pub(crate) fn expression_roles(e: Expression) -> Roles
     ensures { λ r. ⌜ r ≡ expressionRoles e ⌝ }
 {
     match e {
@@ -40,7 +40,7 @@ pub fn expression_roles(e: Expression) -> Roles
 }
 
 // What the operands of a statement stand for.
-pub fn statement_roles(s: Statement) -> Roles
+pub(crate) fn statement_roles(s: Statement) -> Roles
     ensures { λ r. ⌜ r ≡ statementRoles s ⌝ }
 {
     match s {
@@ -62,7 +62,7 @@ pub fn statement_roles(s: Statement) -> Roles
 }
 
 // An expression with these operands.
-pub fn expression_with(e: Expression, o: Operands) -> Expression
+pub(crate) fn expression_with(e: Expression, o: Operands) -> Expression
     ensures { λ r. ⌜ r ≡ expressionWith e o ⌝ }
 {
     match e {
@@ -75,7 +75,7 @@ pub fn expression_with(e: Expression, o: Operands) -> Expression
 }
 
 // A statement with these operands.
-pub fn statement_with(s: Statement, o: Operands) -> Statement
+pub(crate) fn statement_with(s: Statement, o: Operands) -> Statement
     ensures { λ r. ⌜ r ≡ statementWith s o ⌝ }
 {
     match s {

@@ -44,7 +44,7 @@ fn pair_size(o: Operator, m: u32, n: u32) -> u64
 }
 
 // The size of an expression, from those of the expressions before it.
-pub fn expression_size(tables: &Tables, e: Expression) -> u64
+pub(crate) fn expression_size(tables: &Tables, e: Expression) -> u64
     ensures { λ r. ⌜ r ≡ size (vec-items (now (tables .entry) .variables)) (vec-items (now (tables .entry) .sizes)) e ⌝ }
 {
     match e {

@@ -7,7 +7,7 @@ use crate::items::Words;
 use text::Reader;
 
 // The words that a reader has not handed out yet.
-pub fn cut_words<'a>(reader: &mut Reader<'a>) -> Words<'a>
+pub(crate) fn cut_words<'a>(reader: &mut Reader<'a>) -> Words<'a>
     requires { ⌜ now reader .place ≤ length (now (now reader .text)) ⌝ }
     ensures { λ r. ⌜ Spells r (left 32 (now (now (reader .entry) .text)) (now (reader .entry) .place)) ⌝ }
 {

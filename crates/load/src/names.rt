@@ -27,7 +27,7 @@ fn name_in(line: &[u8]) -> Option<&[u8]>
 }
 
 // The name in line `n` of a text that ends with a line end, counted from 0, as a part of the text.
-pub fn name_at(text: &[u8], n: usize) -> Option<&[u8]>
+pub(crate) fn name_at(text: &[u8], n: usize) -> Option<&[u8]>
     ensures { λ r. ⌜ NameAt (text .entry) n r ⌝ }
 {
     if text.len() == 0 {

@@ -36,7 +36,7 @@ fn read_lines(draft: &mut Draft, reader: &mut Reader) -> Result<u16, Refusal>
 }
 
 // Reads a text. The draft then holds the sheet that the text spells, and its run number is answered; or the text is refused.
-pub fn read_text(draft: &mut Draft, text: &[u8]) -> Result<u16, Refusal>
+pub(crate) fn read_text(draft: &mut Draft, text: &[u8]) -> Result<u16, Refusal>
     ensures { λ r. ⌜ Drafted r (now (draft .exit)) (verdict (now (text .entry))) ⌝ }
 {
     if text.len() == 0 || text.len() > LONGEST_TEXT {
