@@ -38,8 +38,8 @@ use Rattle.lines.specs.declared.items.Keyword.{Keyword}
 use Rattle.lines.specs.declared.items.Keyword.the-variants as Keyword
 use Rattle.lines.specs.declared.items.Role.the-variants as Role
 use Rattle.lines.specs.Said.{Said}
-use Rattle.lines.specs.Forms.{keywordOf}
-use Rattle.lines.specs.Reading.{then, allowed, full, sized, expressionOf, statementOf, variableOf, runOf, itemOf, admitted, lineOf}
+use Rattle.lines.specs.Forms.{keywordOf, doubleExpression}
+use Rattle.lines.specs.Reading.{then, allowed, full, sized, expressionBy, expressionOf, statementOf, variableOf, runOf, itemOf, admitted, lineOf}
 use Rattle.verdict.proofs.Steps.{then-is}
 use Rattle.verdict.proofs.Pieces.{lacks, Plain, AllPlain, plain-decimal, plain-signed, plain-letters, parted-spaced, lacks-spaced, short-spaced}
 use Rattle.verdict.proofs.Names.{proper-parts, name-back, variable-parts}
@@ -113,14 +113,19 @@ operator-plain Operator.Lt = literal (codes "lt") refl refl (omega arith)
 operator-plain Operator.Both = literal (codes "both") refl refl (omega arith)
 operator-plain Operator.Either = literal (codes "either") refl refl (omega arith)
 
+operator-named : (o : Operator) → doubleExpression (operatorWord o) ≡ Some (Pair o 0 0)
+operator-named Operator.Add = refl
+operator-named Operator.Sub = refl
+operator-named Operator.Mul = refl
+operator-named Operator.Eq = refl
+operator-named Operator.Lt = refl
+operator-named Operator.Both = refl
+operator-named Operator.Either = refl
+
 pair-read : (d : Said) (o : Operator) (a b n : ℕ) → Steady d → ltb a (length (d .expressions)) ≡ true → ltb b (length (d .expressions)) ≡ true → n ≡ size (d .variables) (d .sizes) (Pair o a b) → n ≤ 1000000000 → expressionOf d (expressionWords (d .variables) (Pair o a b)) ≡ Ok (Item.Expression (Pair o a b) n)
-pair-read d Operator.Add a b n st p q is le = then-is _ _ _ (operands-read d Role.Expression Role.Expression Role.Absent a b 0 st p q refl) ∙ sized-read d (Pair Operator.Add a b) n is le
-pair-read d Operator.Sub a b n st p q is le = then-is _ _ _ (operands-read d Role.Expression Role.Expression Role.Absent a b 0 st p q refl) ∙ sized-read d (Pair Operator.Sub a b) n is le
-pair-read d Operator.Mul a b n st p q is le = then-is _ _ _ (operands-read d Role.Expression Role.Expression Role.Absent a b 0 st p q refl) ∙ sized-read d (Pair Operator.Mul a b) n is le
-pair-read d Operator.Eq a b n st p q is le = then-is _ _ _ (operands-read d Role.Expression Role.Expression Role.Absent a b 0 st p q refl) ∙ sized-read d (Pair Operator.Eq a b) n is le
-pair-read d Operator.Lt a b n st p q is le = then-is _ _ _ (operands-read d Role.Expression Role.Expression Role.Absent a b 0 st p q refl) ∙ sized-read d (Pair Operator.Lt a b) n is le
-pair-read d Operator.Both a b n st p q is le = then-is _ _ _ (operands-read d Role.Expression Role.Expression Role.Absent a b 0 st p q refl) ∙ sized-read d (Pair Operator.Both a b) n is le
-pair-read d Operator.Either a b n st p q is le = then-is _ _ _ (operands-read d Role.Expression Role.Expression Role.Absent a b 0 st p q refl) ∙ sized-read d (Pair Operator.Either a b) n is le
+pair-read d o a b n st p q is le =
+    ap (λ f. expressionBy d f (decimal a) (decimal b) []) (operator-named o)
+    ∙ then-is _ _ _ (operands-read d Role.Expression Role.Expression Role.Absent a b 0 st p q refl) ∙ sized-read d (Pair o a b) n is le
 
 expression-ready : (d : Said) (e : Expression) (n : ℕ) → Steady d → expressionOk (length (d .variables)) (length (d .expressions)) e ≡ true → n ≡ size (d .variables) (d .sizes) e → n ≤ 1000000000 → Ready (expressionOf d) (expressionWords (d .variables) e) (Item.Expression e n)
 expression-ready d (Num z) n st ok is le =
