@@ -1,7 +1,6 @@
 -- The key and the words of a line. Assumes nothing.
-use mathlib.Core.Path.{_≡_, refl, sym, ap, subst, _∙_}
-use mathlib.Core.Bool.{Bool, true, false, cond}
-use mathlib.Core.List.{List, [], _∷_}
+use mathlib.Core.Path.{_≡_, sym, ap, subst, _∙_}
+use mathlib.Core.List.{List, []}
 use Prim.Native.Nat.{ℕ, _≤_, _<_}
 use denote.Ref.{RefT}
 use native.Mathlib.Omega.{arith}
@@ -9,12 +8,11 @@ use lib.Dec.{eqb, ltb}
 use lib.ListN.{length, drop}
 use Rattle.std.specs.declared.option.Option.the-variants.{Some}
 use Rattle.std.specs.declared.result.Result.{Result}
-use Rattle.std.specs.declared.result.Result.the-variants.{Ok, Err}
+use Rattle.std.specs.declared.result.Result.the-variants.{Ok}
 use Rattle.std.proofs.shelf.Tests.{ne-eqb, le-ltb, cond-false}
 use Rattle.text.specs.Cut.{before, after, parted, left, KeyAt}
 use Rattle.text.proofs.Cuts.{left-in, parted-cut}
 use Rattle.lines.specs.declared.items.Fault.{Fault}
-use Rattle.lines.specs.declared.items.Fault.the-variants as Fault
 use Rattle.lines.specs.declared.items.Item.{Item}
 use Rattle.lines.specs.declared.items.Keyword.{Keyword}
 use Rattle.lines.specs.Said.{Said}

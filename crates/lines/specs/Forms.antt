@@ -1,10 +1,9 @@
 -- Operations: their words, what their operands stand for, and what they make of them. Assumes nothing.
 -- An operation is given as an expression or a statement whose operands are 0.
 use mathlib.Core.Bool.{cond}
-use mathlib.Core.List.{List, [], _∷_}
+use mathlib.Core.List.{List}
 use Prim.Native.Nat.{ℕ}
 use lib.Chars.{codes}
-use lib.IntN.{ℤ}
 use Rattle.std.specs.shelf.Text.{sameBytes}
 use Rattle.std.specs.declared.option.Option.{Option}
 use Rattle.std.specs.declared.option.Option.the-variants.{Some, None}

@@ -1,6 +1,6 @@
 -- The name of a variable in the text of its sheet. Assumes nothing.
-use mathlib.Core.Path.{_≡_, refl, sym, ap, subst, _∙_}
-use mathlib.Core.List.{List, [], _∷_, _++_, map}
+use mathlib.Core.Path.{_≡_, refl, ap, _∙_}
+use mathlib.Core.List.{List, [], _∷_, map}
 use Prim.Native.Nat.{ℕ, zero, suc, _+_, _≤_, _<_}
 use native.Mathlib.Numerals.{add-one}
 use native.Mathlib.Omega.{arith}
@@ -12,11 +12,11 @@ use Rattle.std.specs.declared.option.Option.{Option}
 use Rattle.std.specs.declared.option.Option.the-variants.{Some, None}
 use Rattle.std.specs.declared.result.Result.the-variants.{Ok}
 use Rattle.std.proofs.shelf.Lists.{length-map, getD-append-left, take-append-le}
-use Rattle.text.specs.Cut.{before, PartAt}
+use Rattle.text.specs.Cut.{before}
 use Rattle.sheet.specs.declared.parts.Variable.{Variable}
-use Rattle.sheet.specs.Content.{Content, noVariable, variableAt, spelled}
-use Rattle.sheet.specs.Writing.{ended, nameAt, spaced, variableWords, variableLine, bodyLines}
-use Rattle.sheet.specs.Limits.{VariablesOk, Limits}
+use Rattle.sheet.specs.Content.{Content, variableAt}
+use Rattle.sheet.specs.Writing.{ended, nameAt, variableLine, bodyLines}
+use Rattle.sheet.specs.Limits.{VariablesOk}
 use Rattle.verdict.specs.Verdict.{verdict}
 use Rattle.verdict.specs.Law.{linesIn}
 use Rattle.verdict.proofs.Names.{name-plain}

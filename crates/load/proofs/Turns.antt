@@ -1,11 +1,8 @@
 -- A turn of the loop over the lines. Assumes nothing.
-use mathlib.Core.Path.{_≡_, refl, sym, ap, subst, _∙_}
-use mathlib.Core.List.{List, [], _∷_}
-use Prim.Native.Nat.{ℕ, _+_, _≤_}
-use lib.ListN.{length}
-use Rattle.std.specs.declared.result.Result.{Result}
-use Rattle.std.specs.declared.result.Result.the-variants.{Ok, Err}
-use Rattle.lines.specs.declared.items.Fault.{Fault}
+use mathlib.Core.Path.{_≡_, sym, ap, subst, _∙_}
+use mathlib.Core.List.{List, _∷_}
+use Prim.Native.Nat.{ℕ, _+_}
+use Rattle.std.specs.declared.result.Result.the-variants.{Ok}
 use Rattle.lines.specs.declared.items.Item.{Item}
 use Rattle.lines.specs.declared.items.Item.the-variants as Item
 use Rattle.lines.specs.Said.{Said, added, Room}

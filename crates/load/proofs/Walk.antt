@@ -1,6 +1,6 @@
 -- A walk over the lines of a text. Assumes nothing.
-use mathlib.Core.Path.{_≡_, refl, sym, ap, subst, _∙_}
-use mathlib.Core.List.{List, [], _∷_, _++_}
+use mathlib.Core.Path.{_≡_, sym, ap, subst, _∙_}
+use mathlib.Core.List.{List, [], _∷_}
 use Prim.Native.Nat.{ℕ, _+_, _-_, _≤_, _<_}
 use native.Mathlib.Omega.{arith}
 use lib.ListN.{length, getD, take, drop, length-append, length-drop}
@@ -12,7 +12,7 @@ use Rattle.std.proofs.shelf.Lists.{drop-more, take-more, joined-more}
 use Rattle.text.specs.Cut.{before, parted, left, PartAt, Handed}
 use Rattle.text.proofs.Cuts.{left-some}
 use Rattle.sheet.specs.Writing.{ended}
-use Rattle.load.specs.Naming.{startOf, LineAt, NameIn, NameAt}
+use Rattle.load.specs.Naming.{startOf, LineAt, NameIn}
 
 -- what is known where line i of ws, which is x, was handed out
 pub record Came (ws : List (List ℕ)) (i : ℕ) (x : List ℕ) (rest : List (List ℕ)) : Type 0 where

@@ -9,7 +9,7 @@ use Rattle.sheet.specs.Held.{content}
 use Rattle.lines.specs.declared.drafts.Draft.{Draft}
 use Rattle.lines.specs.Said.{said}
 use Rattle.verdict.specs.declared.refusals.Refusal.{Refusal}
-use Rattle.verdict.specs.Verdict.{sheetOf, verdict}
+use Rattle.verdict.specs.Verdict.{sheetOf}
 
 -- what a sheet says
 abbrev pub sheetIn : Sheet → Content

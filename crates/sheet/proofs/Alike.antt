@@ -1,6 +1,5 @@
 -- Variables in the order of their names. Assumes nothing.
-use mathlib.Core.Path.{_≡_, refl, sym, ap, _∙_}
-use mathlib.Core.Bool.{true}
+use mathlib.Core.Path.{_≡_, sym, ap, _∙_}
 use mathlib.Core.List.{List}
 use Prim.Native.Nat.{ℕ, _<_}
 use lib.ListN.{length}
@@ -10,12 +9,11 @@ use Rattle.std.specs.declared.option.Option.{Option}
 use Rattle.std.specs.declared.option.Option.the-variants.{Some, None}
 use Rattle.std.proofs.shelf.Equals.{sameBytes-decides}
 use Rattle.search.specs.declared.order.Side.{Side}
-use Rattle.search.specs.declared.order.Side.the-variants.{Lower, Same}
+use Rattle.search.specs.declared.order.Side.the-variants.{Same}
 use Rattle.search.specs.Order.{FirstPlace}
 use Rattle.search.specs.Sides.{by-bytes}
 use Rattle.search.proofs.Totals.{Fair, fair-on, fair-bytes, bytes-same, bytes-refl}
 use Rattle.search.proofs.Places.{first-placeBy}
-use Rattle.sheet.specs.declared.parts.Name.{Name}
 use Rattle.sheet.specs.declared.parts.Variable.{Variable}
 use Rattle.sheet.specs.Limits.{numberOfName}
 

@@ -1,16 +1,13 @@
 -- The sheet of a new engine keeps the limits. Assumes nothing.
 use mathlib.Core.Path.{_≡_, refl, sym, subst}
-use mathlib.Core.Bool.{true}
-use mathlib.Core.List.{List, [], _∷_}
-use Prim.Native.Nat.{ℕ, zero, suc, _≤_, _<_}
+use mathlib.Core.List.{List, []}
+use Prim.Native.Nat.{zero, suc}
 use native.Mathlib.Omega.{arith}
-use lib.ListN.{length}
 use Rattle.std.specs.Written.{digits}
 use Rattle.sheet.specs.declared.parts.Variable.{Variable}
 use Rattle.sheet.specs.declared.parts.Expression.{Expression}
 use Rattle.sheet.specs.declared.parts.Statement.{Statement}
-use Rattle.sheet.specs.Content.{Content}
-use Rattle.sheet.specs.Limits.{VariablesOk, ExpressionsOk, SizesOk, StatementsOk, Limits}
+use Rattle.sheet.specs.Limits.{VariablesOk, StatementsOk, Limits}
 use Rattle.sheet.specs.Held.{first}
 
 one-variable : VariablesOk (first .variables)

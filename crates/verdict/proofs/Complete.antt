@@ -1,6 +1,6 @@
 -- The writing of a sheet that keeps the limits is accepted as that sheet. Assumes nothing.
 use mathlib.Core.Path.{_≡_, refl, sym, ap, subst, _∙_}
-use mathlib.Core.Bool.{Bool, true, false, cond, _||_}
+use mathlib.Core.Bool.{true, _||_}
 use mathlib.Core.List.{List, [], _∷_, _++_, map, append-assoc, append-nil}
 use Prim.Native.Nat.{ℕ, _+_, _-_, _≤_, _<_}
 use native.Mathlib.Omega.{arith}
@@ -11,7 +11,7 @@ use Rattle.std.specs.Joined.{joined}
 use Rattle.std.specs.declared.option.Option.{Option}
 use Rattle.std.specs.declared.option.Option.the-variants.{Some, None}
 use Rattle.std.specs.declared.result.Result.{Result}
-use Rattle.std.specs.declared.result.Result.the-variants.{Ok, Err}
+use Rattle.std.specs.declared.result.Result.the-variants.{Ok}
 use Rattle.std.proofs.shelf.Lists.{take-at, getD-at, length-push}
 use Rattle.std.proofs.shelf.Tests.{or-from, ne-eqb, eq-eqb, le-ltb, cond-true, cond-false}
 use Rattle.text.specs.Cut.{parted}
@@ -23,16 +23,15 @@ use Rattle.sheet.specs.declared.parts.Statement.the-variants.{True}
 use Rattle.sheet.specs.Content.{Content, noVariable}
 use Rattle.sheet.specs.Sizes.{tabled, size, sizes}
 use Rattle.sheet.specs.Writing.{ended, bodyLines, writing}
-use Rattle.sheet.specs.Limits.{variableOk, expressionOk, statementOk, VariablesOk, ExpressionsOk, SizesOk, StatementsOk, Limits}
+use Rattle.sheet.specs.Limits.{variableOk, expressionOk, statementOk, VariablesOk, ExpressionsOk, StatementsOk, Limits}
 use Rattle.sheet.proofs.Tabled.{tabled-front}
 use Rattle.lines.specs.declared.items.Item.{Item}
 use Rattle.lines.specs.declared.items.Item.the-variants as Item
 use Rattle.lines.specs.Said.{Said, nothing, added}
-use Rattle.lines.specs.Reading.{lineOf}
-use Rattle.verdict.specs.Verdict.{sheetOf, closed, onLine, linesOf, headed, body, lastByte, verdict}
+use Rattle.verdict.specs.Verdict.{sheetOf, closed, onLine, linesOf, headed, lastByte, verdict}
 use Rattle.verdict.proofs.Pieces.{lacks, parted-one, parted-more}
 use Rattle.verdict.proofs.Given.{line-given}
-use Rattle.verdict.proofs.Chains.{Chain, texts, saidLines, chain-lines, Good, good-start, good-more, steady}
+use Rattle.verdict.proofs.Chains.{Chain, texts, chain-lines, Good, good-start, good-more, steady}
 
 -- ---- lines put together are cut apart again
 abbrev AllLack : List (List ℕ) → Type 0

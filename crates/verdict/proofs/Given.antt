@@ -1,12 +1,12 @@
 -- What is written is read: the line of an item that fits is taken as that item. Assumes nothing.
-use mathlib.Core.Path.{_≡_, refl, sym, ap, subst, _∙_}
-use mathlib.Core.Bool.{Bool, true, false, cond, _&&_, not}
-use mathlib.Core.List.{List, [], _∷_, _++_}
-use Prim.Native.Nat.{ℕ, _+_, _*_, _≤_, _<_}
+use mathlib.Core.Path.{_≡_, refl, sym, ap, _∙_}
+use mathlib.Core.Bool.{true, false, not}
+use mathlib.Core.List.{List, [], _∷_}
+use Prim.Native.Nat.{ℕ, _≤_, _<_}
 use native.Mathlib.Omega.{arith}
 use lib.Chars.{codes}
 use lib.Dec.{eqb, leb, ltb}
-use lib.IntN.{ℤ, natAbs}
+use lib.IntN.{natAbs}
 use lib.Signed.{leZ}
 use lib.ListN.{length}
 use Rattle.std.specs.Options.{okOr, isSome}
@@ -14,10 +14,9 @@ use Rattle.std.specs.Written.{decimal, signed}
 use Rattle.std.specs.declared.option.Option.{Option}
 use Rattle.std.specs.declared.option.Option.the-variants.{Some, None}
 use Rattle.std.specs.declared.result.Result.{Result}
-use Rattle.std.specs.declared.result.Result.the-variants.{Ok, Err}
-use Rattle.std.proofs.shelf.Tests.{and-from, and-parts, not-from-false, not-true, lt-ltb, le-ltb, lt-leb, le-leb, leb-true, eq-eqb, ne-eqb, cond-true, cond-false}
+use Rattle.std.specs.declared.result.Result.the-variants.{Ok}
+use Rattle.std.proofs.shelf.Tests.{and-from, and-parts, lt-ltb, le-ltb, lt-leb, le-leb, leb-true, eq-eqb, ne-eqb, cond-true, cond-false}
 use Rattle.text.specs.Cut.{before, after, parted}
-use Rattle.text.specs.Decimals.{numberOf}
 use Rattle.text.proofs.Numbers.{natural-some, number-some}
 use Rattle.sheet.specs.declared.parts.Operator.{Operator}
 use Rattle.sheet.specs.declared.parts.Operator.the-variants as Operator
@@ -29,7 +28,7 @@ use Rattle.sheet.specs.declared.parts.Statement.the-variants.{True, False, Empt
 use Rattle.sheet.specs.Content.{spelled}
 use Rattle.sheet.specs.Sizes.{size}
 use Rattle.sheet.specs.Writing.{spaced, operatorWord, variableWords, expressionWords, statementWords}
-use Rattle.sheet.specs.Limits.{nameOf, declared, nameOk, written, variableOk, expressionOk, statementOk}
+use Rattle.sheet.specs.Limits.{declared, nameOk, written, variableOk, expressionOk, statementOk}
 use Rattle.lines.specs.declared.items.Fault.{Fault}
 use Rattle.lines.specs.declared.items.Fault.the-variants as Fault
 use Rattle.lines.specs.declared.items.Item.{Item}
@@ -39,7 +38,7 @@ use Rattle.lines.specs.declared.items.Keyword.the-variants as Keyword
 use Rattle.lines.specs.declared.items.Role.the-variants as Role
 use Rattle.lines.specs.Said.{Said}
 use Rattle.lines.specs.Forms.{keywordOf, doubleExpression}
-use Rattle.lines.specs.Reading.{then, allowed, full, sized, expressionBy, expressionOf, statementOf, variableOf, runOf, itemOf, admitted, lineOf}
+use Rattle.lines.specs.Reading.{allowed, full, sized, expressionBy, expressionOf, statementOf, variableOf, runOf, itemOf, admitted, lineOf}
 use Rattle.verdict.proofs.Steps.{then-is}
 use Rattle.verdict.proofs.Pieces.{lacks, Plain, AllPlain, plain-decimal, plain-signed, plain-letters, parted-spaced, lacks-spaced, short-spaced}
 use Rattle.verdict.proofs.Names.{proper-parts, name-back, variable-parts}

@@ -1,7 +1,6 @@
 -- Names: the letters of a word, and the variable that has them. Assumes nothing.
 use mathlib.Core.Path.{_≡_, refl, sym, ap, subst, _∙_}
 use mathlib.Core.Bool.{Bool, true, false, cond, _&&_, not}
-use mathlib.Core.Logic.{_⊎_, inl, inr, ⊎-elim}
 use mathlib.Core.List.{List, [], _∷_, _++_}
 use Prim.Native.Nat.{ℕ, zero, suc, _+_, _-_, _≤_, _<_}
 use native.Mathlib.Omega.{arith}
@@ -19,7 +18,7 @@ use Rattle.sheet.specs.declared.parts.Name.{Name}
 use Rattle.sheet.specs.declared.parts.Variable.{Variable}
 use Rattle.sheet.specs.Content.{spelled, noVariable, variableAt}
 use Rattle.sheet.specs.Writing.{nameAt}
-use Rattle.sheet.specs.Limits.{letter, letters, proper, named, nameOk, nameOf, numberOfName, declared, variableOk, VariablesOk}
+use Rattle.sheet.specs.Limits.{letter, letters, proper, named, nameOk, nameOf, declared, variableOk, VariablesOk}
 use Rattle.lines.specs.Said.{Said}
 use Rattle.lines.specs.Reading.{numberBy}
 use Rattle.verdict.proofs.Steps.{clash-none, same-some, if-some}

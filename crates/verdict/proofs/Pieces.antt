@@ -12,8 +12,8 @@ use Rattle.std.specs.Reads.{Digits, value}
 use Rattle.std.specs.Written.{decimal, signed}
 use Rattle.std.proofs.shelf.Decimals.{digits-decimal, length-decimal-le}
 use Rattle.std.proofs.shelf.Numerals.{Numerals, numerals-by-value, tells-digits, digit-from-value}
-use Rattle.std.proofs.shelf.Tests.{and-from, and-parts, not-from-false, not-true, eqb-true, eq-eqb, ne-eqb, leb-true, le-leb}
-use Rattle.text.specs.Cut.{before, after, onto, parted, left}
+use Rattle.std.proofs.shelf.Tests.{and-from, and-parts, not-from-false, not-true, eqb-true, eq-eqb, ne-eqb, leb-true}
+use Rattle.text.specs.Cut.{before, after, onto, parted}
 use Rattle.text.proofs.Cuts.{parted-cut}
 use Rattle.sheet.specs.Writing.{spaced, ended}
 use Rattle.sheet.specs.Limits.{letter, letters}

@@ -1,9 +1,9 @@
 -- Why a text is refused. Assumes nothing.
 use mathlib.Core.Path.{_≡_, refl, sym, ap, subst, _∙_}
 use mathlib.Core.Bool.{Bool, true, false, cond, _||_}
-use mathlib.Core.Logic.{_⊎_, inl, inr, ⊎-elim}
+use mathlib.Core.Logic.{inl, inr}
 use mathlib.Core.List.{List, [], _∷_}
-use Prim.Native.Nat.{ℕ, zero, suc, _+_, _≤_, _<_}
+use Prim.Native.Nat.{ℕ, zero, suc, _+_}
 use native.Mathlib.Omega.{arith}
 use lib.Chars.{codes}
 use lib.Dec.{eqb, ltb}
@@ -14,15 +14,14 @@ use Rattle.std.specs.declared.option.Option.the-variants.{Some, None}
 use Rattle.std.specs.declared.result.Result.{Result}
 use Rattle.std.specs.declared.result.Result.the-variants.{Ok, Err}
 use Rattle.std.proofs.shelf.Equals.{sameBytes-decides}
-use Rattle.std.proofs.shelf.Tests.{or-parts, eqb-true, eqb-false, ltb-true, ltb-false, cases-bool}
+use Rattle.std.proofs.shelf.Tests.{eqb-true, eqb-false, ltb-true, ltb-false}
 use Rattle.text.specs.Cut.{parted}
-use Rattle.sheet.specs.Content.{Content}
 use Rattle.lines.specs.declared.items.Fault.{Fault}
 use Rattle.lines.specs.declared.items.Item.{Item}
 use Rattle.lines.specs.Said.{Said, nothing, added}
 use Rattle.lines.specs.Reading.{lineOf}
 use Rattle.lines.proofs.Cutting.{parted-some}
-use Rattle.faults.specs.Fits.{Before, fits}
+use Rattle.faults.specs.Fits.{fits}
 use Rattle.faults.proofs.First.{first-fault}
 use Rattle.verdict.specs.declared.refusals.Refusal.{Refusal}
 use Rattle.verdict.specs.declared.refusals.Refusal.the-variants as Refusal

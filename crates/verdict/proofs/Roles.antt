@@ -1,14 +1,13 @@
 -- Operands: what their words say, both ways. Assumes nothing.
 use mathlib.Core.Path.{_≡_, refl, sym, ap, subst, _∙_}
-use mathlib.Core.Bool.{Bool, true, false, cond}
-use mathlib.Core.List.{List, [], _∷_}
+use mathlib.Core.Bool.{Bool, true, cond}
+use mathlib.Core.List.{List, []}
 use Prim.Native.Nat.{ℕ, _≤_, _<_}
 use native.Mathlib.Omega.{arith}
 use lib.Dec.{eqb, ltb}
 use lib.ListN.{length}
 use Rattle.std.specs.Options.{okOr}
 use Rattle.std.specs.Written.{decimal}
-use Rattle.std.specs.declared.result.Result.{Result}
 use Rattle.std.specs.declared.result.Result.the-variants.{Ok, Err}
 use Rattle.std.proofs.shelf.Tests.{ltb-true, lt-ltb, eqb-true, cond-true}
 use Rattle.text.specs.Decimals.{naturalOf}
@@ -23,8 +22,8 @@ use Rattle.lines.specs.declared.items.Role.the-variants as Role
 use Rattle.lines.specs.declared.items.Roles.{Roles}
 use Rattle.lines.specs.declared.items.Operands.{Operands}
 use Rattle.lines.specs.Said.{Said}
-use Rattle.lines.specs.Reading.{then, numeral, numberBy, resolved, there, operands}
-use Rattle.verdict.proofs.Steps.{clash, same-ok, then-ok, or-ok, if-ok, then-is}
+use Rattle.lines.specs.Reading.{numeral, numberBy, resolved, there, operands}
+use Rattle.verdict.proofs.Steps.{same-ok, then-ok, or-ok, if-ok, then-is}
 use Rattle.verdict.proofs.Pieces.{Plain, plain-decimal, plain-letters}
 use Rattle.verdict.proofs.Names.{variable-is, variable-back, name-plain}
 

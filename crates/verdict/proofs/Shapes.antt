@@ -1,8 +1,8 @@
 -- Operations: their words, and the operands that they take. Assumes nothing.
-use mathlib.Core.Path.{_≡_, refl, sym, ap, subst, _∙_}
-use mathlib.Core.Bool.{Bool, true, false, cond, _&&_}
+use mathlib.Core.Path.{_≡_, refl, sym, subst}
+use mathlib.Core.Bool.{Bool, true, false, cond}
 use mathlib.Core.List.{List, [], _∷_}
-use Prim.Native.Nat.{ℕ, suc}
+use Prim.Native.Nat.{ℕ}
 use lib.Chars.{codes}
 use lib.ListN.{length, take}
 use Rattle.std.specs.shelf.Text.{sameBytes}
@@ -17,7 +17,6 @@ use Rattle.sheet.specs.declared.parts.Statement.{Statement}
 use Rattle.sheet.specs.declared.parts.Statement.the-variants.{True, False, Empty, More, Is, And, If, Next, Always, Halt, Len, Gets, Chop, For, While, Request}
 use Rattle.sheet.specs.Writing.{operatorWord, expressionWords, statementWords}
 use Rattle.sheet.specs.Limits.{expressionOk, statementOk}
-use Rattle.lines.specs.declared.items.Roles.{Roles}
 use Rattle.lines.specs.declared.items.Operands.{Operands}
 use Rattle.lines.specs.Said.{Said}
 use Rattle.lines.specs.Forms.{when, bareExpression, singleExpression, doubleExpression, bareStatement, singleStatement, doubleStatement, tripleStatement, expressionRoles, statementRoles, expressionWith, statementWith}

@@ -1,12 +1,12 @@
 -- A text that is accepted is the writing of its sheet, which keeps the limits. Assumes nothing.
 use mathlib.Core.Path.{_≡_, refl, sym, ap, subst, _∙_}
-use mathlib.Core.Bool.{Bool, true, false, cond, _||_}
-use mathlib.Core.List.{List, [], _∷_, _++_, map}
+use mathlib.Core.Bool.{_||_}
+use mathlib.Core.List.{List, [], _∷_, _++_}
 use Prim.Native.Nat.{ℕ, _+_, _-_, _≤_, _<_}
 use native.Mathlib.Omega.{arith}
 use lib.Chars.{codes}
 use lib.Dec.{eqb, ltb}
-use lib.ListN.{length, getD, take}
+use lib.ListN.{length, take}
 use Rattle.std.specs.Joined.{joined}
 use Rattle.std.specs.shelf.Text.{sameBytes}
 use Rattle.std.specs.declared.option.Option.{Option}
@@ -30,7 +30,7 @@ use Rattle.verdict.specs.Verdict.{sheetOf, closed, onLine, linesOf, headed, bo
 use Rattle.verdict.proofs.Steps.{clash, same-ok, if-ok, unless-ok}
 use Rattle.verdict.proofs.Pieces.{ended-parted}
 use Rattle.verdict.proofs.Taken.{line-taken}
-use Rattle.verdict.proofs.Chains.{Chain, texts, runLines, saidLines, chain-lines, Good, good-start, good-more, chain-good}
+use Rattle.verdict.proofs.Chains.{Chain, texts, saidLines, chain-lines, Good, good-start, good-more, chain-good}
 
 line-ok : (n : ℕ) (r : Result Item Fault) (f : Item → Result Content Refusal) (c : Content) → onLine n r f ≡ Ok c → (x : Item) × (r ≡ Ok x) × (f x ≡ Ok c)
 line-ok n (Ok x) f c q = (x, refl, q)

@@ -1,7 +1,7 @@
 -- What a line that is taken says: it is the writing of its item, and the item fits. Assumes nothing.
 use mathlib.Core.Path.{_≡_, refl, sym, ap, subst, _∙_}
-use mathlib.Core.Bool.{Bool, true, false, cond, _&&_, not}
-use mathlib.Core.Logic.{_⊎_, inl, inr, ⊎-elim}
+use mathlib.Core.Bool.{Bool, true, false, cond, not}
+use mathlib.Core.Logic.{_⊎_, inl, inr}
 use mathlib.Core.List.{List, [], _∷_, _++_}
 use Prim.Native.Nat.{ℕ, _+_, _≤_, _<_}
 use native.Mathlib.Omega.{arith}
@@ -15,11 +15,10 @@ use Rattle.std.specs.Written.{decimal, signed}
 use Rattle.std.specs.shelf.Text.{sameBytes}
 use Rattle.std.specs.declared.option.Option.{Option}
 use Rattle.std.specs.declared.option.Option.the-variants.{Some, None}
-use Rattle.std.specs.declared.result.Result.{Result}
-use Rattle.std.specs.declared.result.Result.the-variants.{Ok, Err}
+use Rattle.std.specs.declared.result.Result.the-variants.{Ok}
 use Rattle.std.proofs.shelf.Equals.{sameBytes-decides}
 use Rattle.std.proofs.shelf.Lists.{nil-from-length}
-use Rattle.std.proofs.shelf.Tests.{cond-both, and-from, and-parts, not-from-false, not-true, ltb-true, leb-true, leb-false, le-leb, lt-ltb, eqb-true, eqb-false}
+use Rattle.std.proofs.shelf.Tests.{cond-both, and-from, and-parts, not-from-false, not-true, ltb-true, leb-true, leb-false, le-leb, eqb-true, eqb-false}
 use Rattle.text.specs.Cut.{before, after, parted}
 use Rattle.text.specs.Decimals.{numberOf}
 use Rattle.text.proofs.Numbers.{number-is}
@@ -31,7 +30,7 @@ use Rattle.sheet.specs.declared.parts.Statement.{Statement}
 use Rattle.sheet.specs.Content.{spelled}
 use Rattle.sheet.specs.Sizes.{size}
 use Rattle.sheet.specs.Writing.{spaced, variableWords, expressionWords, statementWords, variableLine, expressionLine, statementLine, runLine}
-use Rattle.sheet.specs.Limits.{nameOf, declared, nameOk, written, variableOk, expressionOk, statementOk}
+use Rattle.sheet.specs.Limits.{nameOf, declared, nameOk, variableOk, expressionOk, statementOk}
 use Rattle.lines.specs.declared.items.Fault.{Fault}
 use Rattle.lines.specs.declared.items.Fault.the-variants as Fault
 use Rattle.lines.specs.declared.items.Item.{Item}
@@ -41,12 +40,12 @@ use Rattle.lines.specs.declared.items.Keyword.the-variants as Keyword
 use Rattle.lines.specs.declared.items.Role.the-variants as Role
 use Rattle.lines.specs.Said.{Said}
 use Rattle.lines.specs.Forms.{when, keywordOf, bareExpression, singleExpression, doubleExpression, bareStatement, singleStatement, doubleStatement, tripleStatement, expressionRoles, statementRoles, expressionWith, statementWith}
-use Rattle.lines.specs.Reading.{then, allowed, full, numeral, there, operands, sized, expressionBy, statementBy, constant, expressionOf, statementOf, bound, upward, fresh, variableOf, runOf, itemOf, admitted, lineOf}
+use Rattle.lines.specs.Reading.{allowed, full, numeral, there, operands, sized, expressionBy, statementBy, constant, expressionOf, statementOf, bound, upward, fresh, variableOf, runOf, itemOf, admitted, lineOf}
 use Rattle.verdict.proofs.Steps.{clash, same-ok, then-ok, or-ok, if-ok, unless-ok, none-is}
 use Rattle.verdict.proofs.Pieces.{spaced-parted, key-split}
 use Rattle.verdict.proofs.Names.{name-is, name-ok}
-use Rattle.verdict.proofs.Roles.{Says, operand-says, says-ok, operands-say}
-use Rattle.verdict.proofs.Shapes.{Named, Finds, statementWord, statementArity, expressionWord, expressionArity, bare-statement, single-statement, double-statement, triple-statement, bare-expression, single-expression, double-expression, statement-words, statement-ok, expression-words, expression-ok}
+use Rattle.verdict.proofs.Roles.{operand-says, says-ok, operands-say}
+use Rattle.verdict.proofs.Shapes.{Finds, statementWord, statementArity, expressionWord, expressionArity, bare-statement, single-statement, double-statement, triple-statement, bare-expression, single-expression, double-expression, statement-words, statement-ok, expression-words, expression-ok}
 
 -- the line of an item, in a sheet with the variables vs
 abbrev pub lineText : List Variable → Item → List ℕ

@@ -1,5 +1,5 @@
 -- The verdict on a text: the sheet that it spells, or why it is refused. Assumes nothing.
-use mathlib.Core.Bool.{Bool, cond, _||_}
+use mathlib.Core.Bool.{cond, _||_}
 use mathlib.Core.List.{List, [], _∷_}
 use Prim.Native.Nat.{ℕ, _+_, _-_}
 use lib.Chars.{codes}

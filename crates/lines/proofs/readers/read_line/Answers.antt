@@ -1,5 +1,4 @@
-use mathlib.Core.Path.{sym, ap, _∙_}
-use Rattle.lines.specs.Forms.{keywordOf}
+use mathlib.Core.Path.{ap, _∙_}
 use Rattle.lines.specs.Reading.{admitted}
 use Rattle.lines.specs.Said.{said}
 use Rattle.lines.proofs.Cutting.{line-read}
