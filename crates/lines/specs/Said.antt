@@ -25,7 +25,7 @@ abbrev pub said : Draft → Said
 said d = record {
   variables = vec-items (d .tables .variables);
   expressions = vec-items (d .tables .expressions);
-  sizes = vec-items (d .tables .sizes);
+  sizes = vec-items (d .sizes);
   statements = vec-items (d .tables .statements);
   run = d .run;
 }
@@ -44,6 +44,6 @@ added d (Item.Run n) = record { variables = d .variables; expressions = d .expre
 -- there is room for a line more of its kind
 abbrev pub Room : Said → Item → Type 0
 Room d (Item.Variable v) = length (d .variables) < 16
-Room d (Item.Expression e n) = length (d .expressions) < 200
+Room d (Item.Expression e n) = (length (d .expressions) < 200) × (length (d .sizes) < 200)
 Room d (Item.Statement s) = length (d .statements) < 200
 Room d (Item.Run n) = Unit {0}

@@ -4,6 +4,7 @@ ghost use Rattle.std.specs.Vec.{made};
 ghost use Rattle.lines.specs.Said.{said, nothing, added, Room};
 use crate::drafts::Draft;
 use crate::items::Item;
+use sheet::MOST_EXPRESSIONS;
 use sheet::Tables;
 use std::alloc::AllocError;
 use std::alloc::Global;
@@ -14,7 +15,9 @@ impl Draft {
         ensures { λ r. ⌜ made r (λ d. said d ≡ nothing) ⌝ }
     {
         let tables = Tables::new(heap)?;
-        Ok(Draft { tables, run: None })
+        let sizes = Vec::with_capacity(heap, MOST_EXPRESSIONS)?;
+        let run = None;
+        Ok(Draft { tables, sizes, run })
     }
 
     // Forgets all lines.
@@ -22,6 +25,7 @@ impl Draft {
         ensures { λ _. ⌜ said (now (self .exit)) ≡ nothing ⌝ }
     {
         self.tables.clear();
+        self.sizes.clear();
         self.run = None;
     }
 
@@ -32,7 +36,10 @@ impl Draft {
     {
         match item {
             Item::Variable(v) => self.tables.add_variable(v),
-            Item::Expression(e, size) => self.tables.add_expression(e, size),
+            Item::Expression(e, size) => {
+                self.tables.add_expression(e);
+                self.sizes.push_reserved(size);
+            }
             Item::Statement(s) => self.tables.add_statement(s),
             Item::Run(n) => self.run = Some(n),
         }

@@ -32,7 +32,7 @@ const MOST_SIZE: u64 = 1_000_000_000;
 fn with_size(draft: &Draft, e: Expression) -> Result<Item, Fault>
     ensures { λ r. ⌜ r ≡ sized (said (now (draft .entry))) e ⌝ }
 {
-    let size = expression_size(&draft.tables, e);
+    let size = expression_size(draft, e);
     if size <= MOST_SIZE {
         Ok(Item::Expression(e, size as u32))
     } else {

@@ -4,29 +4,29 @@ ghost use lib.ListN.{getD};
 ghost use Rattle.std.specs.Of.Vec.{vec-items};
 ghost use Rattle.sheet.specs.Content.{variableAt};
 ghost use Rattle.sheet.specs.Sizes.{reach, sizeOf, size};
+use crate::drafts::Draft;
 use sheet::Expression;
 use sheet::Operator;
-use sheet::Tables;
 
 // How far from 0 the range of variable `x` reaches.
-fn reach_at(tables: &Tables, x: u16) -> u32
-    ensures { λ r. ⌜ r ≡ reach (variableAt (vec-items (now (tables .entry) .variables)) x) ⌝ }
+fn reach_at(draft: &Draft, x: u16) -> u32
+    ensures { λ r. ⌜ r ≡ reach (variableAt (vec-items (now (draft .entry) .tables .variables)) x) ⌝ }
 {
     let x = x as usize;
-    if x >= tables.variables.len() {
+    if x >= draft.tables.variables.len() {
         return 0;
     }
-    let v = tables.variables[x];
+    let v = draft.tables.variables[x];
     v.low.unsigned_abs().max(v.high.unsigned_abs())
 }
 
 // The size of expression `k`.
-fn size_at(tables: &Tables, k: u16) -> u32
-    ensures { λ r. ⌜ r ≡ getD (vec-items (now (tables .entry) .sizes)) k 0 ⌝ }
+fn size_at(draft: &Draft, k: u16) -> u32
+    ensures { λ r. ⌜ r ≡ getD (vec-items (now (draft .entry) .sizes)) k 0 ⌝ }
 {
     let k = k as usize;
-    if k < tables.sizes.len() {
-        tables.sizes[k]
+    if k < draft.sizes.len() {
+        draft.sizes[k]
     } else {
         0
     }
@@ -44,13 +44,13 @@ fn pair_size(o: Operator, m: u32, n: u32) -> u64
 }
 
 // The size of an expression, from those of the expressions before it.
-pub(crate) fn expression_size(tables: &Tables, e: Expression) -> u64
-    ensures { λ r. ⌜ r ≡ size (vec-items (now (tables .entry) .variables)) (vec-items (now (tables .entry) .sizes)) e ⌝ }
+pub(crate) fn expression_size(draft: &Draft, e: Expression) -> u64
+    ensures { λ r. ⌜ r ≡ size (vec-items (now (draft .entry) .tables .variables)) (vec-items (now (draft .entry) .sizes)) e ⌝ }
 {
     match e {
         Expression::Num(c) => c.unsigned_abs() as u64,
-        Expression::Val(x) => reach_at(tables, x) as u64,
-        Expression::Pair(o, a, b) => pair_size(o, size_at(tables, a), size_at(tables, b)),
+        Expression::Val(x) => reach_at(draft, x) as u64,
+        Expression::Pair(o, a, b) => pair_size(o, size_at(draft, a), size_at(draft, b)),
         Expression::Not(_) | Expression::Last => 1,
     }
 }

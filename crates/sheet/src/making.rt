@@ -25,51 +25,47 @@ pub const MOST_STATEMENTS: usize = 200;
 impl Tables {
     // Empty tables, with room for the longest sheet.
     pub fn new(heap: Global) -> Result<Tables, AllocError>
-        ensures { λ r. ⌜ made r (λ t. (vec-items (t .variables) ≡ []) × (vec-items (t .expressions) ≡ []) × (vec-items (t .sizes) ≡ []) × (vec-items (t .statements) ≡ [])) ⌝ }
+        ensures { λ r. ⌜ made r (λ t. (vec-items (t .variables) ≡ []) × (vec-items (t .expressions) ≡ []) × (vec-items (t .statements) ≡ [])) ⌝ }
     {
         let variables = Vec::with_capacity(heap, MOST_VARIABLES)?;
         let expressions = Vec::with_capacity(heap, MOST_EXPRESSIONS)?;
-        let sizes = Vec::with_capacity(heap, MOST_EXPRESSIONS)?;
         let statements = Vec::with_capacity(heap, MOST_STATEMENTS)?;
         Ok(Tables {
             variables,
             expressions,
-            sizes,
             statements,
         })
     }
 
     // Empties the tables. They keep their memory.
     pub fn clear(&mut self)
-        ensures { λ _. ⌜ (vec-items (now (self .exit) .variables) ≡ []) × (vec-items (now (self .exit) .expressions) ≡ []) × (vec-items (now (self .exit) .sizes) ≡ []) × (vec-items (now (self .exit) .statements) ≡ []) ⌝ }
+        ensures { λ _. ⌜ (vec-items (now (self .exit) .variables) ≡ []) × (vec-items (now (self .exit) .expressions) ≡ []) × (vec-items (now (self .exit) .statements) ≡ []) ⌝ }
     {
         self.variables.clear();
         self.expressions.clear();
-        self.sizes.clear();
         self.statements.clear();
     }
 
     // One variable more.
     pub fn add_variable(&mut self, v: Variable)
         requires { ⌜ vec-len (now self .variables) < 16 ⌝ }
-        ensures { λ _. ⌜ (vec-items (now (self .exit) .variables) ≡ vec-items (now (self .entry) .variables) ++ v ∷ []) × (now (self .exit) .expressions ≡ now (self .entry) .expressions) × (now (self .exit) .sizes ≡ now (self .entry) .sizes) × (now (self .exit) .statements ≡ now (self .entry) .statements) ⌝ }
+        ensures { λ _. ⌜ (vec-items (now (self .exit) .variables) ≡ vec-items (now (self .entry) .variables) ++ v ∷ []) × (now (self .exit) .expressions ≡ now (self .entry) .expressions) × (now (self .exit) .statements ≡ now (self .entry) .statements) ⌝ }
     {
         self.variables.push_reserved(v);
     }
 
-    // One expression more, with its size.
-    pub fn add_expression(&mut self, e: Expression, size: u32)
+    // One expression more.
+    pub fn add_expression(&mut self, e: Expression)
         requires { ⌜ vec-len (now self .expressions) < 200 ⌝ }
-        ensures { λ _. ⌜ (vec-items (now (self .exit) .expressions) ≡ vec-items (now (self .entry) .expressions) ++ e ∷ []) × (vec-items (now (self .exit) .sizes) ≡ vec-items (now (self .entry) .sizes) ++ size ∷ []) × (now (self .exit) .variables ≡ now (self .entry) .variables) × (now (self .exit) .statements ≡ now (self .entry) .statements) ⌝ }
+        ensures { λ _. ⌜ (vec-items (now (self .exit) .expressions) ≡ vec-items (now (self .entry) .expressions) ++ e ∷ []) × (now (self .exit) .variables ≡ now (self .entry) .variables) × (now (self .exit) .statements ≡ now (self .entry) .statements) ⌝ }
     {
         self.expressions.push_reserved(e);
-        self.sizes.push_reserved(size);
     }
 
     // One statement more.
     pub fn add_statement(&mut self, s: Statement)
         requires { ⌜ vec-len (now self .statements) < 200 ⌝ }
-        ensures { λ _. ⌜ (vec-items (now (self .exit) .statements) ≡ vec-items (now (self .entry) .statements) ++ s ∷ []) × (now (self .exit) .variables ≡ now (self .entry) .variables) × (now (self .exit) .expressions ≡ now (self .entry) .expressions) × (now (self .exit) .sizes ≡ now (self .entry) .sizes) ⌝ }
+        ensures { λ _. ⌜ (vec-items (now (self .exit) .statements) ≡ vec-items (now (self .entry) .statements) ++ s ∷ []) × (now (self .exit) .variables ≡ now (self .entry) .variables) × (now (self .exit) .expressions ≡ now (self .entry) .expressions) ⌝ }
     {
         self.statements.push_reserved(s);
     }

@@ -8,5 +8,5 @@ use Rattle.lines.proofs.sizes.reach_at.Needs as need
 
 pub returns-then-x-len : need.returns-then-x-len
 returns-then-x-len c =
-    let t = c .args .tables .now in
-    sym (ap reach (getD-past (vec-items (t .variables)) (c .args .x) noVariable (omega (arith, c .if-x-len .taken, t .variables .ok .0, c .len .ensures))))
+    let d = c .args .draft .now in
+    sym (ap reach (getD-past (vec-items (d .tables .variables)) (c .args .x) noVariable (omega (arith, c .if-x-len .taken, d .tables .variables .ok .0, c .len .ensures))))

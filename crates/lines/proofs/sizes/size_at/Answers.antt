@@ -6,5 +6,5 @@ use Rattle.lines.proofs.sizes.size_at.Needs as need
 
 pub returns-else-k-len : need.returns-else-k-len
 returns-else-k-len c =
-    let t = c .args .tables .now in
-    sym (getD-past (vec-items (t .sizes)) (c .args .k) 0 (omega (arith, c .if-k-len .left, t .sizes .ok .0, c .len .ensures)))
+    let d = c .args .draft .now in
+    sym (getD-past (vec-items (d .sizes)) (c .args .k) 0 (omega (arith, c .if-k-len .left, d .sizes .ok .0, c .len .ensures)))

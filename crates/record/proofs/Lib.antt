@@ -1,0 +1,3 @@
+-- Lemmas that the proofs of this crate, and of those above it, use.
+pub mod Tables
+pub mod Takings
