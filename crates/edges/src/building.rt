@@ -21,7 +21,7 @@ fn told_of(heap: Global, refusal: Refusal) -> Result<String, AllocError> {
 }
 
 impl Bench {
-    pub fn new(heap: Global) -> Result<Bench, AllocError> {
+    pub(crate) fn new(heap: Global) -> Result<Bench, AllocError> {
         let loader = Loader::new(heap)?;
         let text = Vec::new(heap);
         Ok(Bench { loader, text })
@@ -54,7 +54,7 @@ impl Bench {
     }
 
     // Checks the answer to a text that has a part `n` times.
-    pub fn long(
+    pub(crate) fn long(
         &mut self,
         heap: Global,
         start: &str,
@@ -80,7 +80,7 @@ impl Bench {
     }
 
     // The same for each row of a table.
-    pub fn rows(&mut self, heap: Global, start: &str, table: &str) -> Result<(), Fail> {
+    pub(crate) fn rows(&mut self, heap: Global, start: &str, table: &str) -> Result<(), Fail> {
         for row in table.lines() {
             self.row(heap, start, row)?;
         }
@@ -89,7 +89,7 @@ impl Bench {
 }
 
 // Checks the answer to a text that has a part `n` times, of a loader of its own.
-pub fn check_long(
+pub(crate) fn check_long(
     rt: &LibcRuntime,
     start: &str,
     part: &str,
@@ -101,6 +101,6 @@ pub fn check_long(
 }
 
 // Checks the answers to the rows of a table, of a loader of its own.
-pub fn check_table(rt: &LibcRuntime, start: &str, table: &str) -> Result<(), Fail> {
+pub(crate) fn check_table(rt: &LibcRuntime, start: &str, table: &str) -> Result<(), Fail> {
     Bench::new(rt.alloc())?.rows(rt.alloc(), start, table)
 }
