@@ -11,11 +11,11 @@ use Rattle.std.proofs.shelf.Tests.{true≢false}
 use Rattle.text.specs.Cut.{before}
 use Rattle.lines.specs.declared.items.Fault.{Fault}
 use Rattle.lines.specs.declared.items.Fault.the-variants as Fault
-use Rattle.lines.specs.declared.items.Item.{Item}
-use Rattle.lines.specs.declared.items.Item.the-variants as Item
+use Rattle.drafts.specs.declared.items.Item.{Item}
+use Rattle.drafts.specs.declared.items.Item.the-variants as Item
 use Rattle.lines.specs.declared.items.Keyword.{Keyword}
 use Rattle.lines.specs.declared.items.Keyword.the-variants as Keyword
-use Rattle.lines.specs.Said.{Said}
+use Rattle.drafts.specs.Said.{Said}
 use Rattle.lines.specs.Forms.{keywordOf}
 use Rattle.lines.specs.Reading.{then, allowed, full, admitted, itemOf, lineOf}
 use Rattle.faults.specs.Shapes.{wordsIn, formOf, Line, lineIn}

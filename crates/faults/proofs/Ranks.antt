@@ -10,8 +10,8 @@ use Rattle.std.specs.declared.result.Result.{Result}
 use Rattle.std.specs.declared.result.Result.the-variants.{Ok, Err}
 use Rattle.lines.specs.declared.items.Fault.{Fault}
 use Rattle.lines.specs.declared.items.Fault.the-variants.{Long, Key, Many, Form, Number, Name, Operand, Size}
-use Rattle.lines.specs.declared.items.Item.{Item}
-use Rattle.lines.specs.Said.{Said}
+use Rattle.drafts.specs.declared.items.Item.{Item}
+use Rattle.drafts.specs.Said.{Said}
 use Rattle.faults.specs.Shapes.{Form as Shape, unasked, none, variable, num, expression, statement, run, Line, nothing, standings, nth, wordAt, standsAt}
 use Rattle.faults.specs.Fits.{number, word, Before, misnumbered, misnamed, misplaced, faulty}
 use Rattle.faults.proofs.Tries.{tried}

@@ -25,13 +25,13 @@ use Rattle.sheet.specs.Sizes.{size}
 use Rattle.sheet.specs.Limits.{proper, named, nameOf, declared}
 use Rattle.lines.specs.declared.items.Fault.{Fault}
 use Rattle.lines.specs.declared.items.Fault.the-variants as Fault
-use Rattle.lines.specs.declared.items.Item.{Item}
-use Rattle.lines.specs.declared.items.Item.the-variants as Item
+use Rattle.drafts.specs.declared.items.Item.{Item}
+use Rattle.drafts.specs.declared.items.Item.the-variants as Item
 use Rattle.lines.specs.declared.items.Keyword.{Keyword}
 use Rattle.lines.specs.declared.items.Role.{Role}
 use Rattle.lines.specs.declared.items.Role.the-variants as Role
 use Rattle.lines.specs.declared.items.Roles.{Roles}
-use Rattle.lines.specs.Said.{Said}
+use Rattle.drafts.specs.Said.{Said}
 use Rattle.lines.specs.Forms.{expressionRoles, statementRoles, expressionWith, statementWith, bareExpression, singleExpression, doubleExpression, bareStatement, singleStatement, doubleStatement, tripleStatement}
 use Rattle.lines.specs.Reading as reading
 use Rattle.lines.specs.Reading.{then, numberBy, numeral, resolved, there, operands, sized, expressionBy, statementBy, variableOf, expressionOf, statementOf, runOf}

@@ -17,12 +17,12 @@ use Rattle.sheet.specs.Sizes.{size}
 use Rattle.sheet.specs.Limits.{nameOf}
 use Rattle.lines.specs.declared.items.Fault.{Fault}
 use Rattle.lines.specs.declared.items.Fault.the-variants as Fault
-use Rattle.lines.specs.declared.items.Item.{Item}
+use Rattle.drafts.specs.declared.items.Item.{Item}
 use Rattle.lines.specs.declared.items.Operands.{Operands}
 use Rattle.lines.specs.declared.items.Role.{Role}
 use Rattle.lines.specs.declared.items.Role.the-variants as Role
 use Rattle.lines.specs.declared.items.Roles.{Roles}
-use Rattle.lines.specs.Said.{Said}
+use Rattle.drafts.specs.Said.{Said}
 use Rattle.lines.specs.Forms.{expressionRoles, expressionWith}
 use Rattle.lines.specs.Reading.{allowed, full, numberBy, lineOf}
 use Rattle.faults.specs.Shapes.{Form, unasked, none, variable, num, expression, statement, run, Line, lineIn, Stands, nothing, fresh, low, high, constant, operand, wordAt, standsAt}

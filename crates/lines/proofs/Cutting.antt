@@ -13,9 +13,9 @@ use Rattle.std.proofs.shelf.Tests.{ne-eqb, le-ltb, cond-false}
 use Rattle.text.specs.Cut.{before, after, parted, left, KeyAt}
 use Rattle.text.proofs.Cuts.{left-in, parted-cut}
 use Rattle.lines.specs.declared.items.Fault.{Fault}
-use Rattle.lines.specs.declared.items.Item.{Item}
+use Rattle.drafts.specs.declared.items.Item.{Item}
 use Rattle.lines.specs.declared.items.Keyword.{Keyword}
-use Rattle.lines.specs.Said.{Said}
+use Rattle.drafts.specs.Said.{Said}
 use Rattle.lines.specs.Forms.{keywordOf}
 use Rattle.lines.specs.Reading.{then, admitted, itemOf, lineOf}
 

@@ -1,3 +1,2 @@
-pub mod Said
 pub mod Forms
 pub mod Reading

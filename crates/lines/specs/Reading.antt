@@ -24,8 +24,8 @@ use Rattle.sheet.specs.Sizes.{size}
 use Rattle.sheet.specs.Limits.{nameOf, numberOfName, declared}
 use Rattle.lines.specs.declared.items.Fault.{Fault}
 use Rattle.lines.specs.declared.items.Fault.the-variants as Fault
-use Rattle.lines.specs.declared.items.Item.{Item}
-use Rattle.lines.specs.declared.items.Item.the-variants as Item
+use Rattle.drafts.specs.declared.items.Item.{Item}
+use Rattle.drafts.specs.declared.items.Item.the-variants as Item
 use Rattle.lines.specs.declared.items.Keyword.{Keyword}
 use Rattle.lines.specs.declared.items.Keyword.the-variants as Keyword
 use Rattle.lines.specs.declared.items.Role.{Role}
@@ -34,7 +34,7 @@ use Rattle.lines.specs.declared.items.Roles.{Roles}
 use Rattle.lines.specs.declared.items.Operands.{Operands}
 use Rattle.lines.specs.declared.items.Words.{Words}
 use Rattle.lines.specs.declared.items.Words.the-variants.{One, Two, Three, Four, More}
-use Rattle.lines.specs.Said.{Said}
+use Rattle.drafts.specs.Said.{Said}
 use Rattle.lines.specs.Forms.{keywordOf, bareExpression, singleExpression, doubleExpression, bareStatement, singleStatement, doubleStatement, tripleStatement, expressionRoles, statementRoles, expressionWith, statementWith}
 
 -- one step after another, up to the first fault

@@ -1,16 +1,4 @@
-// What a line says, and what can be wrong with it.
-use sheet::Expression;
-use sheet::Statement;
-use sheet::Variable;
-
-// What a line adds to a sheet. An expression comes with its size.
-#[derive(Clone, Copy)]
-pub enum Item {
-    Variable(Variable),
-    Expression(Expression, u32),
-    Statement(Statement),
-    Run(u16),
-}
+// What a line is made of, and what can be wrong with it.
 
 // What is wrong with a line. A number says which word of the line is meant, counted from 1 after the `=`.
 #[derive(Clone, Copy)]

@@ -1,6 +1,4 @@
 // Reads the lines of a sheet: what each one says after those before it, or its fault.
-mod drafting;
-mod drafts;
 mod forms;
 mod items;
 mod operands;
@@ -9,9 +7,7 @@ mod shapes;
 mod sizes;
 mod words;
 
-pub use crate::drafts::Draft;
 pub use crate::items::Fault;
-pub use crate::items::Item;
 pub use crate::items::Keyword;
 pub use crate::items::Operands;
 pub use crate::items::Role;

@@ -1,12 +1,12 @@
 // The operands of a line, with their faults in the order of their numbers.
 ghost use mathlib.Core.Path.{_≡_};
-ghost use Rattle.lines.specs.Said.{said};
+ghost use Rattle.drafts.specs.Said.{said};
 ghost use Rattle.lines.specs.Reading.{numeral, resolved, there, operands};
-use crate::drafts::Draft;
 use crate::items::Fault;
 use crate::items::Operands;
 use crate::items::Role;
 use crate::items::Roles;
+use drafts::Draft;
 
 // The largest number of an operand.
 const MOST_OPERAND: u32 = 199;

@@ -4,7 +4,7 @@ ghost use lib.ListN.{getD};
 ghost use Rattle.std.specs.Of.Vec.{vec-items};
 ghost use Rattle.sheet.specs.Content.{variableAt};
 ghost use Rattle.sheet.specs.Sizes.{reach, sizeOf, size};
-use crate::drafts::Draft;
+use drafts::Draft;
 use sheet::Expression;
 use sheet::Operator;
 

@@ -7,9 +7,9 @@ use lib.ListN.{length}
 use Rattle.std.specs.declared.result.Result.the-variants.{Ok}
 use Rattle.sheet.specs.Sizes.{size}
 use Rattle.sheet.proofs.Tabled.{tabled-length}
-use Rattle.lines.specs.declared.items.Item.{Item}
-use Rattle.lines.specs.declared.items.Item.the-variants as Item
-use Rattle.lines.specs.Said.{Said, added, Room}
+use Rattle.drafts.specs.declared.items.Item.{Item}
+use Rattle.drafts.specs.declared.items.Item.the-variants as Item
+use Rattle.drafts.specs.Said.{Said, added, Room}
 use Rattle.lines.specs.Reading.{lineOf}
 use Rattle.verdict.specs.Verdict.{onLine, linesOf}
 use Rattle.verdict.proofs.Taken.{Fit, line-taken}

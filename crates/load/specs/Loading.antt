@@ -6,8 +6,8 @@ use Rattle.std.specs.declared.result.Result.the-variants.{Ok, Err}
 use Rattle.sheet.specs.declared.kept.Sheet.{Sheet}
 use Rattle.sheet.specs.Content.{Content}
 use Rattle.sheet.specs.Held.{content}
-use Rattle.lines.specs.declared.drafts.Draft.{Draft}
-use Rattle.lines.specs.Said.{said}
+use Rattle.drafts.specs.declared.held.Draft.{Draft}
+use Rattle.drafts.specs.Said.{said}
 use Rattle.verdict.specs.declared.refusals.Refusal.{Refusal}
 use Rattle.verdict.specs.Verdict.{sheetOf}
 

@@ -9,7 +9,7 @@ ghost use Rattle.load.specs.Naming.{NameOf};
 use crate::loading::Loader;
 use crate::names::name_at;
 use crate::reading::read_text;
-use lines::Draft;
+use drafts::Draft;
 use sheet::Sheet;
 use std::alloc::AllocError;
 use std::alloc::Global;

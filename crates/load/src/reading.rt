@@ -1,12 +1,12 @@
 // Reads a whole text into a draft.
 ghost use Rattle.text.specs.Cut.{left};
-ghost use Rattle.lines.specs.Said.{said, nothing};
+ghost use Rattle.drafts.specs.Said.{said, nothing};
 ghost use Rattle.verdict.specs.Verdict.{linesOf, verdict};
 ghost use Rattle.load.specs.Loading.{Drafted};
 ghost use mathlib.Core.Path.{_≡_};
 ghost use Prim.Native.Nat.{_+_, _≤_};
 ghost use lib.ListN.{length};
-use lines::Draft;
+use drafts::Draft;
 use text::Reader;
 use text::same;
 use verdict::Refusal;

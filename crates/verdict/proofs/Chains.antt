@@ -20,9 +20,9 @@ use Rattle.sheet.specs.Sizes.{size, sizes}
 use Rattle.sheet.specs.Writing.{variableLine, expressionLine, statementLine, runLine}
 use Rattle.sheet.specs.Limits.{variableOk, expressionOk, statementOk, VariablesOk, ExpressionsOk, SizesOk, StatementsOk}
 use Rattle.sheet.proofs.Tabled.{tabled-push, tabled-length}
-use Rattle.lines.specs.declared.items.Item.{Item}
-use Rattle.lines.specs.declared.items.Item.the-variants as Item
-use Rattle.lines.specs.Said.{Said, nothing, added}
+use Rattle.drafts.specs.declared.items.Item.{Item}
+use Rattle.drafts.specs.declared.items.Item.the-variants as Item
+use Rattle.drafts.specs.Said.{Said, nothing, added}
 use Rattle.verdict.proofs.Steps.{clash-none, same-some}
 use Rattle.verdict.proofs.Roles.{Steady}
 use Rattle.verdict.proofs.Taken.{lineText, Fit}

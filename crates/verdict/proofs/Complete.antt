@@ -25,9 +25,9 @@ use Rattle.sheet.specs.Sizes.{tabled, size, sizes}
 use Rattle.sheet.specs.Writing.{ended, bodyLines, writing}
 use Rattle.sheet.specs.Limits.{variableOk, expressionOk, statementOk, VariablesOk, ExpressionsOk, StatementsOk, Limits}
 use Rattle.sheet.proofs.Tabled.{tabled-front}
-use Rattle.lines.specs.declared.items.Item.{Item}
-use Rattle.lines.specs.declared.items.Item.the-variants as Item
-use Rattle.lines.specs.Said.{Said, nothing, added}
+use Rattle.drafts.specs.declared.items.Item.{Item}
+use Rattle.drafts.specs.declared.items.Item.the-variants as Item
+use Rattle.drafts.specs.Said.{Said, nothing, added}
 use Rattle.verdict.specs.Verdict.{sheetOf, closed, onLine, linesOf, headed, lastByte, verdict}
 use Rattle.verdict.proofs.Pieces.{lacks, parted-one, parted-more}
 use Rattle.verdict.proofs.Given.{line-given}

@@ -31,12 +31,12 @@ use Rattle.sheet.specs.Writing.{spaced, operatorWord, variableWords, expression
 use Rattle.sheet.specs.Limits.{declared, nameOk, written, variableOk, expressionOk, statementOk}
 use Rattle.lines.specs.declared.items.Fault.{Fault}
 use Rattle.lines.specs.declared.items.Fault.the-variants as Fault
-use Rattle.lines.specs.declared.items.Item.{Item}
-use Rattle.lines.specs.declared.items.Item.the-variants as Item
+use Rattle.drafts.specs.declared.items.Item.{Item}
+use Rattle.drafts.specs.declared.items.Item.the-variants as Item
 use Rattle.lines.specs.declared.items.Keyword.{Keyword}
 use Rattle.lines.specs.declared.items.Keyword.the-variants as Keyword
 use Rattle.lines.specs.declared.items.Role.the-variants as Role
-use Rattle.lines.specs.Said.{Said}
+use Rattle.drafts.specs.Said.{Said}
 use Rattle.lines.specs.Forms.{keywordOf, doubleExpression}
 use Rattle.lines.specs.Reading.{allowed, full, sized, expressionBy, expressionOf, statementOf, variableOf, runOf, itemOf, admitted, lineOf}
 use Rattle.verdict.proofs.Steps.{then-is}

@@ -19,7 +19,7 @@ use Rattle.sheet.specs.declared.parts.Variable.{Variable}
 use Rattle.sheet.specs.Content.{spelled, noVariable, variableAt}
 use Rattle.sheet.specs.Writing.{nameAt}
 use Rattle.sheet.specs.Limits.{letter, letters, proper, named, nameOk, nameOf, declared, variableOk, VariablesOk}
-use Rattle.lines.specs.Said.{Said}
+use Rattle.drafts.specs.Said.{Said}
 use Rattle.lines.specs.Reading.{numberBy}
 use Rattle.verdict.proofs.Steps.{clash-none, same-some, if-some}
 

@@ -17,8 +17,8 @@ use Rattle.std.proofs.shelf.Equals.{sameBytes-decides}
 use Rattle.std.proofs.shelf.Tests.{eqb-true, eqb-false, ltb-true, ltb-false}
 use Rattle.text.specs.Cut.{parted}
 use Rattle.lines.specs.declared.items.Fault.{Fault}
-use Rattle.lines.specs.declared.items.Item.{Item}
-use Rattle.lines.specs.Said.{Said, nothing, added}
+use Rattle.drafts.specs.declared.items.Item.{Item}
+use Rattle.drafts.specs.Said.{Said, nothing, added}
 use Rattle.lines.specs.Reading.{lineOf}
 use Rattle.lines.proofs.Cutting.{parted-some}
 use Rattle.faults.specs.Fits.{fits}

@@ -21,7 +21,7 @@ use Rattle.lines.specs.declared.items.Role.{Role}
 use Rattle.lines.specs.declared.items.Role.the-variants as Role
 use Rattle.lines.specs.declared.items.Roles.{Roles}
 use Rattle.lines.specs.declared.items.Operands.{Operands}
-use Rattle.lines.specs.Said.{Said}
+use Rattle.drafts.specs.Said.{Said}
 use Rattle.lines.specs.Reading.{numeral, numberBy, resolved, there, operands}
 use Rattle.verdict.proofs.Steps.{same-ok, then-ok, or-ok, if-ok, then-is}
 use Rattle.verdict.proofs.Pieces.{Plain, plain-decimal, plain-letters}

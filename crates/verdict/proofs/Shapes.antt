@@ -18,7 +18,7 @@ use Rattle.sheet.specs.declared.parts.Statement.the-variants.{True, False, Empt
 use Rattle.sheet.specs.Writing.{operatorWord, expressionWords, statementWords}
 use Rattle.sheet.specs.Limits.{expressionOk, statementOk}
 use Rattle.lines.specs.declared.items.Operands.{Operands}
-use Rattle.lines.specs.Said.{Said}
+use Rattle.drafts.specs.Said.{Said}
 use Rattle.lines.specs.Forms.{when, bareExpression, singleExpression, doubleExpression, bareStatement, singleStatement, doubleStatement, tripleStatement, expressionRoles, statementRoles, expressionWith, statementWith}
 use Rattle.verdict.proofs.Steps.{clash-none, same-some}
 use Rattle.verdict.proofs.Roles.{AllSay, okIn}

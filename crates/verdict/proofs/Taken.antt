@@ -33,12 +33,12 @@ use Rattle.sheet.specs.Writing.{spaced, variableWords, expressionWords, stateme
 use Rattle.sheet.specs.Limits.{nameOf, declared, nameOk, variableOk, expressionOk, statementOk}
 use Rattle.lines.specs.declared.items.Fault.{Fault}
 use Rattle.lines.specs.declared.items.Fault.the-variants as Fault
-use Rattle.lines.specs.declared.items.Item.{Item}
-use Rattle.lines.specs.declared.items.Item.the-variants as Item
+use Rattle.drafts.specs.declared.items.Item.{Item}
+use Rattle.drafts.specs.declared.items.Item.the-variants as Item
 use Rattle.lines.specs.declared.items.Keyword.{Keyword}
 use Rattle.lines.specs.declared.items.Keyword.the-variants as Keyword
 use Rattle.lines.specs.declared.items.Role.the-variants as Role
-use Rattle.lines.specs.Said.{Said}
+use Rattle.drafts.specs.Said.{Said}
 use Rattle.lines.specs.Forms.{when, keywordOf, bareExpression, singleExpression, doubleExpression, bareStatement, singleStatement, doubleStatement, tripleStatement, expressionRoles, statementRoles, expressionWith, statementWith}
 use Rattle.lines.specs.Reading.{allowed, full, numeral, there, operands, sized, expressionBy, statementBy, constant, expressionOf, statementOf, bound, upward, fresh, variableOf, runOf, itemOf, admitted, lineOf}
 use Rattle.verdict.proofs.Steps.{clash, same-ok, then-ok, or-ok, if-ok, unless-ok, none-is}

@@ -14,8 +14,8 @@ use Rattle.sheet.specs.Content.{Content}
 use Rattle.sheet.specs.Writing.{writing}
 use Rattle.sheet.specs.Limits.{Limits}
 use Rattle.lines.specs.declared.items.Fault.{Fault}
-use Rattle.lines.specs.declared.items.Item.{Item}
-use Rattle.lines.specs.Said.{Said, nothing, added}
+use Rattle.drafts.specs.declared.items.Item.{Item}
+use Rattle.drafts.specs.Said.{Said, nothing, added}
 use Rattle.lines.specs.Reading.{lineOf}
 use Rattle.faults.specs.Fits.{Before, fits}
 use Rattle.verdict.specs.declared.refusals.Refusal.{Refusal}

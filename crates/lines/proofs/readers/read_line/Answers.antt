@@ -1,6 +1,6 @@
 use mathlib.Core.Path.{ap, _∙_}
 use Rattle.lines.specs.Reading.{admitted}
-use Rattle.lines.specs.Said.{said}
+use Rattle.drafts.specs.Said.{said}
 use Rattle.lines.proofs.Cutting.{line-read}
 use Rattle.lines.proofs.readers.read_line.Needs as need
 

@@ -5,7 +5,7 @@ use mathlib.Core.List.{List, _∷_}
 use Prim.Native.Nat.{ℕ}
 use lib.ListN.{length}
 use Rattle.text.specs.Cut.{left}
-use Rattle.lines.specs.Said.{said}
+use Rattle.drafts.specs.Said.{said}
 use Rattle.load.proofs.Turns.{room, turn, still-good}
 use Rattle.load.proofs.reading.read_lines.Needs as need
 

@@ -2,7 +2,7 @@ use mathlib.Core.Path.{_≡_}
 use Prim.Native.Nat.{_+_, _-_, _≤_}
 use lib.ListN.{length}
 use Rattle.text.specs.Cut.{left}
-use Rattle.lines.specs.Said.{said, nothing}
+use Rattle.drafts.specs.Said.{said, nothing}
 use Rattle.verdict.specs.Verdict.{linesOf}
 use Rattle.verdict.proofs.Chains.{Good}
 use Rattle.load.proofs.reading.read_lines.Given as given

@@ -1,6 +1,6 @@
 use mathlib.Core.Path.{refl, sym, ap, _∙_}
 use Rattle.std.specs.declared.result.Result.the-variants.{Ok}
-use Rattle.lines.specs.Said.{said}
+use Rattle.drafts.specs.Said.{said}
 use Rattle.verdict.specs.Verdict.{sheetOf}
 use Rattle.verdict.proofs.Sound.{sound}
 use Rattle.verdict.proofs.Laws.{accepts-the-sheets, tells-the-first-fault}

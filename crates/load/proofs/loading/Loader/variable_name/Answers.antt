@@ -1,6 +1,6 @@
 use mathlib.Core.Path.{refl}
 use native.Mathlib.Omega.{arith}
-use Rattle.lines.specs.Said.{said}
+use Rattle.drafts.specs.Said.{said}
 use Rattle.verdict.specs.Verdict.{sheetOf}
 use Rattle.load.proofs.Named.{named}
 use Rattle.load.proofs.loading.Loader.variable_name.Needs as need

@@ -8,9 +8,9 @@ use Rattle.std.specs.declared.option.Option.the-variants.{Some, None}
 use Rattle.sheet.specs.declared.parts.Variable.{Variable}
 use Rattle.sheet.specs.declared.parts.Expression.{Expression}
 use Rattle.sheet.specs.declared.parts.Statement.{Statement}
-use Rattle.lines.specs.declared.drafts.Draft.{Draft}
-use Rattle.lines.specs.declared.items.Item.{Item}
-use Rattle.lines.specs.declared.items.Item.the-variants as Item
+use Rattle.drafts.specs.declared.held.Draft.{Draft}
+use Rattle.drafts.specs.declared.items.Item.{Item}
+use Rattle.drafts.specs.declared.items.Item.the-variants as Item
 
 -- the variables, expressions with their sizes, and statements of the lines so far; the number of the run line, if there is one
 pub record Said : Type 0 where

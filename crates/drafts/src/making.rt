@@ -1,8 +1,8 @@
 // How a draft is made, cleared and added to.
 ghost use mathlib.Core.Path.{_≡_};
 ghost use Rattle.std.specs.Vec.{made};
-ghost use Rattle.lines.specs.Said.{said, nothing, added, Room};
-use crate::drafts::Draft;
+ghost use Rattle.drafts.specs.Said.{said, nothing, added, Room};
+use crate::held::Draft;
 use crate::items::Item;
 use sheet::MOST_EXPRESSIONS;
 use sheet::Tables;
