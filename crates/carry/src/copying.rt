@@ -18,13 +18,13 @@ fn or_zero(reading: Option<i64>) -> i64
 
 // Makes one state of the feed's readings for `state`, one for each place of the recorder's width, and has it taken.
 pub fn copy_readings<F: Feed, R: Recorder>(feed: &F, state: usize, recorder: &mut R) -> bool
-    ensures answer { result ≡ fitting (spare recorder.old) (breadth recorder.old) (read_state (readings feed.now) state (breadth recorder.old)) }
-    ensures listed { states recorder.new ≡ (if result then states recorder.old ++ read_state (readings feed.now) state (breadth recorder.old) ∷ [] else states recorder.old) }
-    ensures wide { breadth recorder.new ≡ breadth recorder.old }
-    ensures roomy { spare recorder.new ≡ spare recorder.old - (if result then 1 else 0) }
-    ensures fixed { (w : ℕ) → capacity recorder.new w ≡ capacity recorder.old w }
-    ensures held { lent recorder.new ≡ lent recorder.old }
-    ensures untouched { (k : ℕ) → reach recorder.new ≤ k → cell recorder.new k ≡ cell recorder.old k }
+    ensures answer { result ≡ fitting (R.spare recorder.old) (R.breadth recorder.old) (read_state (F.readings feed.now) state (R.breadth recorder.old)) }
+    ensures listed { R.states recorder.new ≡ (if result then R.states recorder.old ++ read_state (F.readings feed.now) state (R.breadth recorder.old) ∷ [] else R.states recorder.old) }
+    ensures wide { R.breadth recorder.new ≡ R.breadth recorder.old }
+    ensures roomy { R.spare recorder.new ≡ R.spare recorder.old - (if result then 1 else 0) }
+    ensures fixed { (w : ℕ) → R.capacity recorder.new w ≡ R.capacity recorder.old w }
+    ensures held { R.lent recorder.new ≡ R.lent recorder.old }
+    ensures untouched { (k : ℕ) → R.reach recorder.new ≤ k → R.cell recorder.new k ≡ R.cell recorder.old k }
 {
     let width = recorder.width();
     let mut values = [0i64; MOST_WIDTH];

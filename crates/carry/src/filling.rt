@@ -8,13 +8,13 @@ use record::Recorder;
 // Starts the recorder and offers it the states of a flat slice one after another, up to the first that it denies.
 // Says how many it took. A width that is not allowed leaves the recorder as it was.
 pub fn fill<R: Recorder>(recorder: &mut R, numbers: &[i64], width: usize) -> usize
-    ensures answer { result ≡ (if allowed_width width then length (filled (capacity recorder.old width) width numbers.now) else 0) }
-    ensures listed { states recorder.new ≡ (if allowed_width width then filled (capacity recorder.old width) width numbers.now else states recorder.old) }
-    ensures wide { breadth recorder.new ≡ (if allowed_width width then width else breadth recorder.old) }
-    ensures roomy { spare recorder.new ≡ (if allowed_width width then capacity recorder.old width - result else spare recorder.old) }
-    ensures fixed { (w : ℕ) → capacity recorder.new w ≡ capacity recorder.old w }
-    ensures held { lent recorder.new ≡ lent recorder.old }
-    ensures untouched { (k : ℕ) → reach recorder.new ≤ k → cell recorder.new k ≡ cell recorder.old k }
+    ensures answer { result ≡ (if allowed_width width then length (filled (R.capacity recorder.old width) width numbers.now) else 0) }
+    ensures listed { R.states recorder.new ≡ (if allowed_width width then filled (R.capacity recorder.old width) width numbers.now else R.states recorder.old) }
+    ensures wide { R.breadth recorder.new ≡ (if allowed_width width then width else R.breadth recorder.old) }
+    ensures roomy { R.spare recorder.new ≡ (if allowed_width width then R.capacity recorder.old width - result else R.spare recorder.old) }
+    ensures fixed { (w : ℕ) → R.capacity recorder.new w ≡ R.capacity recorder.old w }
+    ensures held { R.lent recorder.new ≡ R.lent recorder.old }
+    ensures untouched { (k : ℕ) → R.reach recorder.new ≤ k → R.cell recorder.new k ≡ R.cell recorder.old k }
 {
     if !recorder.start(width) {
         return 0;

@@ -1,4 +1,6 @@
 // Users of recorders and feeds, proved against what these mean and against nothing else of them, and two kinds of a maker's own.
+#![tactic(auto)]
+
 mod constant;
 mod copying;
 mod filling;

@@ -5,7 +5,6 @@ use Rattle.sheet.specs.declared.parts.Expression.{Expression}
 use Rattle.sheet.specs.declared.parts.Statement.{Statement}
 use Rattle.drafts.specs.declared.held.Draft.{Draft}
 use Rattle.drafts.specs.declared.items.Item.{Item}
-use Rattle.drafts.specs.declared.items.Item.TheVariants as Item
 
 -- the variables, expressions with their sizes, and statements of the lines so far; the number of the run line, if there is one
 pub record Said : Type 0 where

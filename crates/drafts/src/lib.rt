@@ -1,4 +1,6 @@
 // A sheet that is being read: what its lines so far say, and one line more.
+#![tactic(auto)]
+
 mod held;
 mod items;
 mod making;

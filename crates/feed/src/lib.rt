@@ -1,4 +1,6 @@
 // Feeds: what one means, the one without readings, and the list of records.
+#![tactic(auto)]
+
 mod feed;
 mod list;
 mod silent;

@@ -1,4 +1,6 @@
 // Recorders: what one means, the rules that all of them keep, and the table over lent numbers.
+#![tactic(auto)]
+
 mod recorder;
 mod rules;
 mod table;

@@ -1,4 +1,6 @@
 // One search for every kind of item with a total order.
+#![tactic(auto)]
+
 pub mod bytes;
 pub mod numbers;
 pub mod order;

@@ -27,7 +27,7 @@ pub trait Order {
 
 // The first place whose item is the same as `item`, or none.
 pub fn first_place<T: Order>(items: &[T], item: &T) -> Option<usize>
-    ensures { FirstPlace same items.now item.now result }
+    ensures { FirstPlace T.same items.now item.now result }
 {
     for i in 0..items.len() {
         match item.compare(&items[i]) {

@@ -99,7 +99,7 @@ in_range v z = int_le v.low z && int_le z v.high
 -- a number outside its variable's range is no value of that variable
 abbrev pub ranged : Variable → Option ℤ → Option ℤ
 ranged v None = None
-ranged v (Some z) = cond (in_range v z) (Some z) None
+ranged v (Some z) = cond (int_le v.low z && int_le z v.high) (Some z) None
 
 -- the number of variable x that a list of values gives: the value at x, if there is one and it lies in x's range
 abbrev pub valued : List Variable → List (Option ℤ) → ℕ → Option ℤ

@@ -1,4 +1,6 @@
 // The numbers of a sheet's expressions, also where only some of its variables are known.
+#![tactic(auto)]
+
 mod evaluation;
 mod memo;
 mod operate;

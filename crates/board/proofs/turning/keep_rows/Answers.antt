@@ -6,7 +6,7 @@ use Rattle.board.specs.Store.{kept_rows}
 use Rattle.board.proofs.turning.keep_rows.Goals as goal
 
 pub loop-i-preserved : goal.loop-i-preserved
-loop-i-preserved c = (c.keep-row-j.ensures.items ∙ c.loop-i.invariant.0, c.keep-row-j.ensures.place, c.keep-row-j.ensures.size ∙ c.loop-i.invariant.2, c.keep-row-j.ensures.space ∙ c.loop-i.invariant.3)
+loop-i-preserved c = (c.keep_row-j.ensures.items ∙ c.loop-i.invariant.0, c.keep_row-j.ensures.place, c.keep_row-j.ensures.size ∙ c.loop-i.invariant.2, c.keep_row-j.ensures.space ∙ c.loop-i.invariant.3)
 
 pub returns : goal.returns
 returns c =

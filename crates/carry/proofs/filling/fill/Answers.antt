@@ -8,8 +8,8 @@ use Rattle.carry.specs.Carried.{taken, filled}
 use Rattle.carry.proofs.Fillings.{chosen, state_within, part_row, taken_more, taken_stop, taken_end}
 use Rattle.carry.proofs.filling.fill.Goals as goal
 
-pub slice-bounds-take-end : goal.slice-bounds-take-end
-slice-bounds-take-end g c =
+pub slice_bounds-take-end : goal.slice_bounds-take-end
+slice_bounds-take-end g c =
     let h : c.loop-i.i * c.args.width + c.args.width ≤ length c.args.numbers.now = state_within c.loop-i.i c.args.width (length c.args.numbers.now) (omega arith) in
     search rules
 

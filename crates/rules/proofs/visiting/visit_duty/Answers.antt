@@ -16,8 +16,8 @@ returns-then-place-len g c =
     ap (λ (z : Statement). rule (under (sheet_of s) f) c.args.state z c.args.duty.number c.args.duty (held c.args.board.now))
     (sym (get_or_past (vec_items s.tables.statements) c.args.duty.statement True (omega (arith, s.tables.statements.ok.0))))
 
-pub rule-of-requires : goal.rule-of-requires
-rule-of-requires g c =
+pub rule_of-requires : goal.rule_of-requires
+rule_of-requires g c =
     let s = c.args.sheet.now in
     let ss = vec_items s.tables.statements in
     let p = c.args.duty.statement in

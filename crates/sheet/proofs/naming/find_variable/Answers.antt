@@ -6,6 +6,6 @@ use Rattle.sheet.proofs.naming.find_variable.Goals as goal
 
 pub returns : goal.returns
 returns c = record {
-  value = first_named _ _ _ c.first-place.ensures;
-  bound = place_within (λ (x y : Variable). by_name x y ≡ Same) _ _ _ c.first-place.ensures;
+  value = first_named _ _ _ c.first_place.ensures;
+  bound = place_within (λ (x y : Variable). by_name x y ≡ Same) _ _ _ c.first_place.ensures;
 }

@@ -66,7 +66,7 @@ returns t c =
           let x = w.in-Val.x in
           let l = ltb-true x (length (vec_items s.tables.variables)) (lawful s i e (Val x) c.requires.there c.index.ensures w.in-Val.is) in
           let v = variable_read s x w.index-in-Val.result.now l w.index-in-Val.ensures in (
-            w.v-is ∙ w.fitting-v.ensures ∙ ap (ranged w.index-in-Val.result.now) w.value-at.ensures ∙ ap (λ (y : Variable). ranged y (get_or vs x None)) v
+            w.v-is ∙ w.fitting-v.ensures ∙ ap (ranged w.index-in-Val.result.now) w.value_at.ensures ∙ ap (λ (y : Variable). ranged y (get_or vs x None)) v
                 ∙ sym (worth-entry s i e (Val x) c.requires.there c.index.ensures w.in-Val.is vs c.args.end),
             subst (AllRight g) (sym w.slots-is) c.requires.right,
           )

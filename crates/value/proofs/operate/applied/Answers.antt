@@ -6,8 +6,8 @@ use Rattle.value.specs.Values.{apply}
 use Rattle.value.proofs.Magnitudes.{abs_fits, product_fits}
 use Rattle.value.proofs.operate.applied.Goals as goal
 
-pub overflow-mul-result : goal.overflow-mul-result
-overflow-mul-result c =
+pub overflow_mul-result : goal.overflow_mul-result
+overflow_mul-result c =
     let f = abs_fits c.args.x (omega arith) in
     let g = abs_fits c.args.y (omega arith) in
     simp to_z-of_z (product_fits c.args.x c.args.y c.requires.0 c.requires.1)

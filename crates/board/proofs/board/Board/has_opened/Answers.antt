@@ -7,15 +7,15 @@ use Rattle.board.specs.Store.{span_of}
 use Rattle.board.proofs.Rows.{read_opened, read_other}
 use Rattle.board.proofs.board.Board.has_opened.Goals as goal
 
-pub returns-then-opened-so : goal.returns-then-opened-so
-returns-then-opened-so c =
+pub returns-then-opened_so : goal.returns-then-opened_so
+returns-then-opened_so c =
     let b = c.args.self.now in
-    sym (c.loop-i.invariant ∙ read_opened c.args.opening (vec_items b.rows) c.loop-i.i (vec_len b.rows) c.index-row.result.now c.index-row.ensures (omega arith) b.rows.ok.0 (sym c.if-opened-so.ensures))
+    sym (c.loop-i.invariant ∙ read_opened c.args.opening (vec_items b.rows) c.loop-i.i (vec_len b.rows) c.index-row.result.now c.index-row.ensures (omega arith) b.rows.ok.0 (sym c.if-opened_so.ensures))
 
 pub loop-i-preserved : goal.loop-i-preserved
 loop-i-preserved c =
     let b = c.args.self.now in
-    c.loop-i.invariant ∙ read_other c.args.opening (vec_items b.rows) c.loop-i.i (vec_len b.rows) c.index-row.result.now c.index-row.ensures (omega arith) b.rows.ok.0 (sym c.if-opened-so.ensures)
+    c.loop-i.invariant ∙ read_other c.args.opening (vec_items b.rows) c.loop-i.i (vec_len b.rows) c.index-row.result.now c.index-row.ensures (omega arith) b.rows.ok.0 (sym c.if-opened_so.ensures)
 
 pub returns : goal.returns
 returns c =

@@ -16,5 +16,5 @@ returns c =
     let s = c.args.sheet.now in
     let es = vec_items s.tables.expressions in
     c.evaluate.ensures.answer
-    ∙ ap (λ (f : ℕ → Option ℤ). known_at es f c.end-of.result c.args.expression) (known_values (under (sheet_of s) silence) b.values (c.requires silence))
-    ∙ ap (λ (e : End). known_at es (held b).known e c.args.expression) c.end-of.ensures
+    ∙ ap (λ (f : ℕ → Option ℤ). known_at es f c.end_of.result c.args.expression) (known_values (under (sheet_of s) silence) b.values (c.requires silence))
+    ∙ ap (λ (e : End). known_at es (held b).known e c.args.expression) c.end_of.ensures

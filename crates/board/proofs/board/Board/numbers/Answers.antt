@@ -10,12 +10,12 @@ loop-x-init c = (refl, λ j h. absurd (omega arith))
 
 pub loop-x-preserved : goal.loop-x-preserved
 loop-x-preserved c =
-    let n : SFits w64 c.unwrap-or.result = search rules in
+    let n : SFits w64 c.unwrap_or.result = search rules in
     let l : length c.loop-x.numbers ≡ 16 = c.loop-x.invariant.0 in (
       rw length-set l,
       below_more _ _
           (λ j h. let ne : j ≢ c.loop-x.x = omega arith in rw get_or-set_other (c.loop-x.invariant.1 j h))
-          (let lt : c.loop-x.x < length c.loop-x.numbers = omega arith in rw get_or-set_same (to_z-of_z w64 c.unwrap-or.result n ∙ c.unwrap-or.ensures)),
+          (let lt : c.loop-x.x < length c.loop-x.numbers = omega arith in rw get_or-set_same (to_z-of_z w64 c.unwrap_or.result n ∙ c.unwrap_or.ensures)),
     )
 
 pub returns : goal.returns

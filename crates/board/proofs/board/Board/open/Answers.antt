@@ -4,19 +4,19 @@ use Rattle.meaning.specs.Work.{Work, goes}
 use Rattle.board.specs.Held.{store}
 use Rattle.board.proofs.Rows.{open_full, open_new}
 use Rattle.board.proofs.board.Board.open.Goals as goal
-use Rattle.board.proofs.board.Board.open.Goals.{then-len-ge-MOST-SPANS-via-then-len-ge-MOST-SPANS, then-len-ge-MOST-SPANS-via-else-len-ge-MOST-SPANS+then-len-ge-MOST-DUTIES}
+use Rattle.board.proofs.board.Board.open.Goals.{then-len-ge-MOST_SPANS-via-then-len-ge-MOST_SPANS, then-len-ge-MOST_SPANS-via-else-len-ge-MOST_SPANS+then-len-ge-MOST_DUTIES}
 
-pub returns-then-len-ge-MOST-SPANS : goal.returns-then-len-ge-MOST-SPANS
-returns-then-len-ge-MOST-SPANS c =
+pub returns-then-len-ge-MOST_SPANS : goal.returns-then-len-ge-MOST_SPANS
+returns-then-len-ge-MOST_SPANS c =
     let b = c.args.self.now in
-    open_full (store b) c.args.opening (sym c.if-has-opened.ensures)
-    (elim c.then-len-ge-MOST-SPANS.branch [
-      | then-len-ge-MOST-SPANS-via-then-len-ge-MOST-SPANS w ↦ inl (omega (arith, w.if-len-ge-MOST-SPANS.true, c.len.ensures, b.rows.ok.0))
-      | then-len-ge-MOST-SPANS-via-else-len-ge-MOST-SPANS+then-len-ge-MOST-DUTIES w ↦ inr (omega (arith, w.if-len-ge-MOST-DUTIES.true, w.len-else-len-ge-MOST-SPANS.ensures, b.duties.ok.0))
+    open_full (store b) c.args.opening (sym c.if-has_opened.ensures)
+    (elim c.then-len-ge-MOST_SPANS.branch [
+      | then-len-ge-MOST_SPANS-via-then-len-ge-MOST_SPANS w ↦ inl (omega (arith, w.if-len-ge-MOST_SPANS.true, c.len.ensures, b.rows.ok.0))
+      | then-len-ge-MOST_SPANS-via-else-len-ge-MOST_SPANS+then-len-ge-MOST_DUTIES w ↦ inr (omega (arith, w.if-len-ge-MOST_DUTIES.true, w.len-else-len-ge-MOST_SPANS.ensures, b.duties.ok.0))
     ])
 
 pub returns : goal.returns
 returns c =
     let b = c.args.self.now in
-    ap (λ (w : Work). goes w true) c.push-span.ensures
-    ∙ open_new (store b) c.args.opening (sym c.if-has-opened.ensures) (omega (arith, c.if-len-ge-MOST-SPANS.false, c.len.ensures, b.rows.ok.0)) (omega (arith, c.if-len-ge-MOST-DUTIES.false, c.len-else-len-ge-MOST-SPANS.ensures, b.duties.ok.0))
+    ap (λ (w : Work). goes w true) c.push_span.ensures
+    ∙ open_new (store b) c.args.opening (sym c.if-has_opened.ensures) (omega (arith, c.if-len-ge-MOST_SPANS.false, c.len.ensures, b.rows.ok.0)) (omega (arith, c.if-len-ge-MOST_DUTIES.false, c.len-else-len-ge-MOST_SPANS.ensures, b.duties.ok.0))

@@ -6,18 +6,18 @@ use Rattle.board.specs.Store.{rising}
 use Rattle.board.proofs.Rows.{new_row, rising-push, push_means}
 use Rattle.board.proofs.board.Board.push_span.Goals as goal
 
-pub invariant-of-self : goal.invariant-of-self
-invariant-of-self c =
+pub invariant_of-self : goal.invariant_of-self
+invariant_of-self c =
     let b = c.args.self.now in (
       (omega arith, omega arith, omega arith),
       (
         (omega arith, omega arith, omega arith),
         (
-          ap (λ (x : List Row). rising 0 x (b.next + 1)) c.push-reserved.ensures.items ∙ rising-push 0 (vec_items b.rows) b.next (new_row c.args.opening b.next) refl b.ordered,
+          ap (λ (x : List Row). rising 0 x (b.next + 1)) c.push_reserved.ensures.items ∙ rising-push 0 (vec_items b.rows) b.next (new_row c.args.opening b.next) refl b.ordered,
           ((omega arith, omega arith), tt),
         ),
       ),
     )
 
 pub returns : goal.returns
-returns c = let b = c.args.self.now in push_means (store b) c.args.opening _ _ b.ordered c.push-reserved.ensures.items c.push-reserved-2.ensures.items
+returns c = let b = c.args.self.now in push_means (store b) c.args.opening _ _ b.ordered c.push_reserved.ensures.items c.push_reserved-2.ensures.items

@@ -4,12 +4,12 @@ use Rattle.board.specs.Held.{store}
 use Rattle.board.proofs.Rows.{write_rising, write_means}
 use Rattle.board.proofs.board.Board.set_end.Goals as goal
 
-pub invariant-of-self : goal.invariant-of-self
-invariant-of-self c =
+pub invariant_of-self : goal.invariant_of-self
+invariant_of-self c =
     let b = c.args.self.now in
-    (b.few, (b.room, (write_rising (vec_items b.rows) c.place-of-i.result (vec_len b.rows) b.next c.index-mut.result.now c.args.end c.index-mut.ensures.value (omega (arith, c.place-of-i.ensures.0, b.rows.ok.0)) b.rows.ok.0 b.ordered, (b.counted, tt))))
+    (b.few, (b.room, (write_rising (vec_items b.rows) c.place_of-i.result (vec_len b.rows) b.next c.index-mut.result.now c.args.end c.index-mut.ensures.value (omega (arith, c.place_of-i.ensures.0, b.rows.ok.0)) b.rows.ok.0 b.ordered, (b.counted, tt))))
 
 pub returns : goal.returns
 returns c =
     let b = c.args.self.now in
-    write_means (store b) c.place-of-i.result (vec_len b.rows) c.args.serial c.index-mut.result.now c.args.end c.index-mut.ensures.value b.rows.ok.0 c.place-of-i.ensures b.ordered
+    write_means (store b) c.place_of-i.result (vec_len b.rows) c.args.serial c.index-mut.result.now c.args.end c.index-mut.ensures.value b.rows.ok.0 c.place_of-i.ensures b.ordered

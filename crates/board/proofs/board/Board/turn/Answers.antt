@@ -6,8 +6,8 @@ use Rattle.board.specs.Store.{rising}
 use Rattle.board.proofs.Turned.{turn_means, rising-kept}
 use Rattle.board.proofs.board.Board.turn.Goals as goal
 
-pub invariant-of-self : goal.invariant-of-self
-invariant-of-self c =
+pub invariant_of-self : goal.invariant_of-self
+invariant_of-self c =
     let b = c.args.self.now in
     let d = c.swap.ensures.x-after in
     let e = c.swap.ensures.y-after in
@@ -18,7 +18,7 @@ invariant-of-self c =
       (
         (omega arith, omega arith, omega arith),
         (
-          ap (λ (x : List Row). rising 0 x b.next) c.keep-rows.ensures.items ∙ rising-kept 0 (vec_items b.rows) b.next b.ordered,
+          ap (λ (x : List Row). rising 0 x b.next) c.keep_rows.ensures.items ∙ rising-kept 0 (vec_items b.rows) b.next b.ordered,
           ((omega arith, c.requires), tt),
         ),
       ),
@@ -27,4 +27,4 @@ invariant-of-self c =
 pub returns : goal.returns
 returns c =
     let b = c.args.self.now in
-    turn_means (store b) _ _ _ b.ordered c.keep-rows.ensures.items (ap (λ v. vec_items v) c.swap.ensures.x-after) c.clear.ensures.items
+    turn_means (store b) _ _ _ b.ordered c.keep_rows.ensures.items (ap (λ v. vec_items v) c.swap.ensures.x-after) c.clear.ensures.items

@@ -6,7 +6,7 @@ use Rattle.verdict.proofs.Laws.{accepts_the_sheets, tells_the_first_fault}
 use Rattle.load.proofs.loading.Loader.load.Goals as goal
 
 pub trade-requires : goal.trade-requires
-trade-requires c = (sound c.args.text.now (sheet_of (said c.read-text.new.draft) c.in-Ok.run') c.in-Ok.ensures).1
+trade-requires c = (sound c.args.text.now (sheet_of (said c.read_text.new.draft) c.in-Ok.run') c.in-Ok.ensures).1
 
 pub returns-in-Ok : goal.returns-in-Ok
 returns-in-Ok c = record { outcome = c.in-Ok.ensures ∙ ap Ok (sym c.trade.ensures.sheet); accepts = accepts_the_sheets; refuses = tells_the_first_fault }

@@ -9,4 +9,4 @@ invariant-loop-j l =
     × (l.self.width ≡ l.initial.self.width)
     × (l.self.count ≡ l.initial.self.count)
     × (l.self.room ≡ l.initial.self.room)
-    × (l.self.memory.name ≡ l.initial.self.memory.name)
+    × (l.self.memory.ghost_name ≡ l.initial.self.memory.ghost_name)
