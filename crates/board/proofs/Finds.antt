@@ -1,15 +1,15 @@
 -- What the search for a duty finds, and numbers that are in range.
-use Rattle.std.proofs.Common.{◌≡◌, ℕ, zero, suc, ◌<◌, Bool, true, false, cond, ◌||◌, List, [], ◌∷◌, length, get_or, ℤ, is_some, Some, None, Option, sym, refl, ap, ◌∙◌, subst, arith}
+use Rattle.std.proofs.Common.{◌≡◌, ℕ, Bool, true, false, cond, ◌||◌, List, [], ◌∷◌, get_or, ℤ, is_some, Some, None, Option, refl, ap, ◌∙◌, subst}
 use mathlib.Core.Path.{fun_ext}
 use Rattle.std.proofs.lemmas.Bool.{cond-true}
 use Rattle.search.specs.declared.order.Side.TheVariants.{Same}
 use Rattle.search.specs.Order.{FirstPlace, place_by, later}
 use Rattle.search.proofs.Places.{first_place_by}
 use Rattle.sheet.specs.declared.parts.Variable.{Variable}
-use Rattle.sheet.specs.Content.{Content, variable_at}
-use Rattle.value.specs.Values.{in_range, ranged, valued, known_at}
+use Rattle.sheet.specs.Content.{variable_at}
+use Rattle.value.specs.Values.{in_range, ranged, valued}
 use Rattle.meaning.specs.declared.parts.Duty.{Duty}
-use Rattle.meaning.specs.Intervals.{Setting, under, fits}
+use Rattle.meaning.specs.Intervals.{Setting}
 use Rattle.meaning.specs.Order.{FitSays}
 use Rattle.meaning.specs.Orders.{by_duty}
 use Rattle.meaning.specs.Work.{same_duty, has_duty}

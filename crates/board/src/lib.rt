@@ -1,4 +1,6 @@
 // The work of one state, held in memory that is reserved once, and the things that a visit does to it.
+#![tactic(auto)]
+
 mod answers;
 mod board;
 mod ends;

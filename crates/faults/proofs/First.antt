@@ -3,11 +3,8 @@ use Rattle.std.proofs.Common.{◌≡◌, ℕ, Bool, true, false, cond, not, eqb,
 use Rattle.std.proofs.lemmas.Bool.{true≢false}
 use Rattle.text.specs.Cut.{before}
 use Rattle.lines.specs.declared.items.Fault.{Fault}
-use Rattle.lines.specs.declared.items.Fault.TheVariants as Fault
 use Rattle.drafts.specs.declared.items.Item.{Item}
-use Rattle.drafts.specs.declared.items.Item.TheVariants as Item
 use Rattle.lines.specs.declared.items.Keyword.{Keyword}
-use Rattle.lines.specs.declared.items.Keyword.TheVariants as Keyword
 use Rattle.drafts.specs.Said.{Said}
 use Rattle.lines.specs.Forms.{keyword_of}
 use Rattle.lines.specs.Reading.{then, allowed, full, admitted, item_of, line_of}

@@ -12,12 +12,9 @@ use Rattle.sheet.specs.declared.parts.Name.{Name}
 use Rattle.sheet.specs.Sizes.{size}
 use Rattle.sheet.specs.Limits.{proper, named, name_of, declared}
 use Rattle.lines.specs.declared.items.Fault.{Fault}
-use Rattle.lines.specs.declared.items.Fault.TheVariants as Fault
 use Rattle.drafts.specs.declared.items.Item.{Item}
-use Rattle.drafts.specs.declared.items.Item.TheVariants as Item
 use Rattle.lines.specs.declared.items.Keyword.{Keyword}
 use Rattle.lines.specs.declared.items.Role.{Role}
-use Rattle.lines.specs.declared.items.Role.TheVariants as Role
 use Rattle.lines.specs.declared.items.Roles.{Roles}
 use Rattle.drafts.specs.Said.{Said}
 use Rattle.lines.specs.Forms.{expression_roles, statement_roles, expression_with, statement_with, bare_expression, single_expression, double_expression, bare_statement, single_statement, double_statement, triple_statement}

@@ -7,11 +7,9 @@ use Rattle.sheet.specs.declared.parts.Expression.TheVariants.{Num}
 use Rattle.sheet.specs.Sizes.{size}
 use Rattle.sheet.specs.Limits.{name_of}
 use Rattle.lines.specs.declared.items.Fault.{Fault}
-use Rattle.lines.specs.declared.items.Fault.TheVariants as Fault
 use Rattle.drafts.specs.declared.items.Item.{Item}
 use Rattle.lines.specs.declared.items.Operands.{Operands}
 use Rattle.lines.specs.declared.items.Role.{Role}
-use Rattle.lines.specs.declared.items.Role.TheVariants as Role
 use Rattle.lines.specs.declared.items.Roles.{Roles}
 use Rattle.drafts.specs.Said.{Said}
 use Rattle.lines.specs.Forms.{expression_roles, expression_with}

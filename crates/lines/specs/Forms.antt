@@ -8,9 +8,7 @@ use Rattle.sheet.specs.declared.parts.Expression.TheVariants.{Num, Val, Pair, No
 use Rattle.sheet.specs.declared.parts.Statement.{Statement}
 use Rattle.sheet.specs.declared.parts.Statement.TheVariants.{True, False, Empty, More, Is, And, If, Next, Always, Halt, Len, Gets, Chop, For, While, Request}
 use Rattle.lines.specs.declared.items.Keyword.{Keyword}
-use Rattle.lines.specs.declared.items.Keyword.TheVariants as Keyword
 use Rattle.lines.specs.declared.items.Role.{Role}
-use Rattle.lines.specs.declared.items.Role.TheVariants as Role
 use Rattle.lines.specs.declared.items.Roles.{Roles}
 use Rattle.lines.specs.declared.items.Operands.{Operands}
 

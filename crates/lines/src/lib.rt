@@ -1,4 +1,6 @@
 // Reads the lines of a sheet: what each one says after those before it, or its fault.
+#![tactic(auto)]
+
 mod forms;
 mod items;
 mod operands;

@@ -3,7 +3,6 @@ use Rattle.std.proofs.Common.{◌≡◌, ℕ, ◌+◌, List, [], ◌∷◌, leng
 use Rattle.sheet.specs.Sizes.{size}
 use Rattle.sheet.proofs.Tabled.{tabled-length}
 use Rattle.drafts.specs.declared.items.Item.{Item}
-use Rattle.drafts.specs.declared.items.Item.TheVariants as Item
 use Rattle.drafts.specs.Said.{Said, added, Room}
 use Rattle.lines.specs.Reading.{line_of}
 use Rattle.verdict.specs.Verdict.{on_line, lines_of}

@@ -1,4 +1,6 @@
 // Loads sheets from their texts.
+#![tactic(auto)]
+
 mod calls;
 mod loading;
 mod names;

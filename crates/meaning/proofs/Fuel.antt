@@ -17,7 +17,6 @@ use Rattle.meaning.specs.Runs.{kept_by, going_on, next_work, recorded, Open, sta
 use Rattle.meaning.specs.Laws.{Roomy, FuelSuffices}
 use Rattle.meaning.proofs.Lists.{longer, nth_within}
 use Rattle.meaning.proofs.Steady.{Steady, steady}
-use Rattle.meaning.proofs.Records.{started}
 use Rattle.meaning.proofs.Kept.{OfWork, Kept, kept-visit, kept-pass, kept_settles}
 
 -- one more in a list that has room for it

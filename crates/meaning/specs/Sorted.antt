@@ -1,7 +1,7 @@
 -- The order of duties is total, and duties that it does not tell apart are one.
-use Rattle.std.specs.Prelude.{◌≡◌, ℕ, Bool, true, false, cond, ◌&&◌, ◌||◌, List, [], ◌∷◌, ℤ, pos, negsuc, Some, None, Option, ◌≢◌, int_lt, refl}
-use Rattle.std.proofs.Common.{sym, ap, ◌∙◌, arith}
-use Rattle.std.proofs.lemmas.Bool.{true≢false, false≢true, both_ways, ltb-true, ltb-false, lt-ltb, le-ltb, eqb-true, eq-eqb, and_parts, and_from}
+use Rattle.std.specs.Prelude.{◌≡◌, ℕ, Bool, true, false, ℤ, pos, negsuc, Some, None, Option, ◌≢◌, int_lt, refl}
+use Rattle.std.proofs.Common.{ap, arith}
+use Rattle.std.proofs.lemmas.Bool.{true≢false, false≢true, ltb-true, ltb-false, lt-ltb}
 use Rattle.search.specs.declared.order.Side.{Side}
 use Rattle.search.specs.declared.order.Side.TheVariants.{Lower, Same, Higher}
 use Rattle.search.specs.Sides.{then, by_number}

@@ -1,4 +1,6 @@
 // What a sheet means, how a state is settled, and that settling is right.
+#![tactic(auto)]
+
 mod laws;
 mod orders;
 mod parts;

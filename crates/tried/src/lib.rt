@@ -1,5 +1,7 @@
 // Sheets tried by hand, with what comes of them.
 // The trials stand in specs/, and here is only the call whose contract says that they come true.
+#![tactic(auto)]
+
 ghost use Rattle.std.specs.Prelude.{◌≡◌, length};
 ghost use Rattle.tried.specs.Tried.{trial_list, AllComeTrue};
 

@@ -1,11 +1,10 @@
 -- Items that fit one after another: the lines that they make, and the rules that they keep. Assumes nothing.
-use Rattle.std.proofs.Common.{◌≡◌, ℕ, ◌+◌, ◌<◌, ◌≤◌, true, ◌⊎◌, List, [], ◌∷◌, ◌++◌, map, length, get_or, Some, None, Option, sym, refl, ap, ◌∙◌, subst, ⊎_elim, append_assoc, append-nil, arith}
+use Rattle.std.proofs.Common.{◌≡◌, ℕ, ◌<◌, ◌≤◌, true, List, [], ◌∷◌, ◌++◌, map, length, get_or, Some, None, Option, sym, refl, ap, ◌∙◌, subst, ⊎_elim, append_assoc, append-nil, arith}
 use Rattle.std.proofs.lemmas.List.{map_push, length_push, get_or_append_left, get_or_push, take-append-le, take_at}
 use Rattle.std.proofs.lemmas.Bool.{cases_lt}
 use Rattle.sheet.specs.declared.parts.Variable.{Variable}
 use Rattle.sheet.specs.declared.parts.Expression.{Expression}
 use Rattle.sheet.specs.declared.parts.Expression.TheVariants.{Last}
-use Rattle.sheet.specs.declared.parts.Statement.{Statement}
 use Rattle.sheet.specs.declared.parts.Statement.TheVariants.{True}
 use Rattle.sheet.specs.Content.{no_variable}
 use Rattle.sheet.specs.Sizes.{size, sizes}
@@ -13,7 +12,6 @@ use Rattle.sheet.specs.Writing.{variable_line, expression_line, statement_line, 
 use Rattle.sheet.specs.Limits.{variable_ok, expression_ok, statement_ok, VariablesOk, ExpressionsOk, SizesOk, StatementsOk}
 use Rattle.sheet.proofs.Tabled.{tabled-push, tabled-length}
 use Rattle.drafts.specs.declared.items.Item.{Item}
-use Rattle.drafts.specs.declared.items.Item.TheVariants as Item
 use Rattle.drafts.specs.Said.{Said, nothing, added}
 use Rattle.verdict.proofs.Steps.{clash_none, same_some}
 use Rattle.verdict.proofs.Roles.{Steady}

@@ -15,7 +15,6 @@ use Rattle.sheet.specs.Writing.{ended, body_lines, writing}
 use Rattle.sheet.specs.Limits.{variable_ok, expression_ok, statement_ok, VariablesOk, ExpressionsOk, StatementsOk, Limits}
 use Rattle.sheet.proofs.Tabled.{tabled-front}
 use Rattle.drafts.specs.declared.items.Item.{Item}
-use Rattle.drafts.specs.declared.items.Item.TheVariants as Item
 use Rattle.drafts.specs.Said.{Said, nothing, added}
 use Rattle.verdict.specs.Verdict.{sheet_of, closed, on_line, lines_of, headed, last_byte, verdict}
 use Rattle.verdict.proofs.Pieces.{lacks, parted-one, parted-more}

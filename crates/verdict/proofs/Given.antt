@@ -7,7 +7,6 @@ use Rattle.std.proofs.lemmas.Bool.{and_from, and_parts, lt-ltb, le-ltb, lt-leb, 
 use Rattle.text.specs.Cut.{before, after, parted}
 use Rattle.text.proofs.Numbers.{natural_some, number_some}
 use Rattle.sheet.specs.declared.parts.Operator.{Operator}
-use Rattle.sheet.specs.declared.parts.Operator.TheVariants as Operator
 use Rattle.sheet.specs.declared.parts.Variable.{Variable}
 use Rattle.sheet.specs.declared.parts.Expression.{Expression}
 use Rattle.sheet.specs.declared.parts.Expression.TheVariants.{Num, Val, Pair, Not, Last}
@@ -18,11 +17,8 @@ use Rattle.sheet.specs.Sizes.{size}
 use Rattle.sheet.specs.Writing.{spaced, operator_word, variable_words, expression_words, statement_words}
 use Rattle.sheet.specs.Limits.{declared, name_ok, written, variable_ok, expression_ok, statement_ok}
 use Rattle.lines.specs.declared.items.Fault.{Fault}
-use Rattle.lines.specs.declared.items.Fault.TheVariants as Fault
 use Rattle.drafts.specs.declared.items.Item.{Item}
-use Rattle.drafts.specs.declared.items.Item.TheVariants as Item
 use Rattle.lines.specs.declared.items.Keyword.{Keyword}
-use Rattle.lines.specs.declared.items.Keyword.TheVariants as Keyword
 use Rattle.lines.specs.declared.items.Role.TheVariants as Role
 use Rattle.drafts.specs.Said.{Said}
 use Rattle.lines.specs.Forms.{keyword_of, double_expression}

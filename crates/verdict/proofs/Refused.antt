@@ -12,7 +12,6 @@ use Rattle.lines.proofs.Cutting.{parted_some}
 use Rattle.faults.specs.Fits.{fits}
 use Rattle.faults.proofs.First.{first_fault}
 use Rattle.verdict.specs.declared.refusals.Refusal.{Refusal}
-use Rattle.verdict.specs.declared.refusals.Refusal.TheVariants as Refusal
 use Rattle.verdict.specs.Verdict.{closed, on_line, lines_of, headed, body, last_byte, verdict}
 use Rattle.verdict.specs.Law.{plus, heard, Faultless, FirstAt, lines_in, later_lines, Sized, Grounds}
 

@@ -8,9 +8,7 @@ use Rattle.sheet.specs.declared.parts.Variable.{Variable}
 use Rattle.sheet.specs.Writing.{name_at}
 use Rattle.sheet.specs.Limits.{name_of, VariablesOk}
 use Rattle.lines.specs.declared.items.Fault.{Fault}
-use Rattle.lines.specs.declared.items.Fault.TheVariants as Fault
 use Rattle.lines.specs.declared.items.Role.{Role}
-use Rattle.lines.specs.declared.items.Role.TheVariants as Role
 use Rattle.lines.specs.declared.items.Roles.{Roles}
 use Rattle.lines.specs.declared.items.Operands.{Operands}
 use Rattle.drafts.specs.Said.{Said}

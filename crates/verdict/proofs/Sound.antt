@@ -14,7 +14,6 @@ use Rattle.drafts.specs.declared.items.Item.{Item}
 use Rattle.drafts.specs.Said.{Said, nothing, added}
 use Rattle.lines.specs.Reading.{line_of}
 use Rattle.verdict.specs.declared.refusals.Refusal.{Refusal}
-use Rattle.verdict.specs.declared.refusals.Refusal.TheVariants as Refusal
 use Rattle.verdict.specs.Verdict.{sheet_of, closed, on_line, lines_of, headed, body, last_byte, verdict}
 use Rattle.verdict.proofs.Steps.{clash, same_ok, if_ok, unless_ok}
 use Rattle.verdict.proofs.Pieces.{ended_parted}

@@ -1,5 +1,5 @@
 -- What a line that is taken says: it is the writing of its item, and the item fits. Assumes nothing.
-use Rattle.std.proofs.Common.{◌≡◌, ℕ, ◌+◌, ◌<◌, ◌≤◌, Bool, true, false, cond, not, eqb, ltb, leb, ◌⊎◌, List, [], ◌∷◌, ◌++◌, length, take, ℤ, nat_abs, is_some, Some, None, Ok, codes, decimal, Option, sym, refl, ap, ◌∙◌, subst, inl, inr, arith}
+use Rattle.std.proofs.Common.{◌≡◌, ℕ, ◌<◌, ◌≤◌, Bool, true, false, cond, not, eqb, ltb, leb, ◌⊎◌, List, [], ◌∷◌, ◌++◌, length, take, ℤ, nat_abs, is_some, Some, None, Ok, codes, decimal, Option, sym, refl, ap, ◌∙◌, subst, inl, inr, arith}
 use lib.Signed.{le_z}
 use Rattle.std.specs.Option.{ok_or}
 use Rattle.std.specs.Fmt.{signed_decimal}
@@ -10,7 +10,6 @@ use Rattle.std.proofs.lemmas.Bool.{cond_both, and_from, and_parts, not_from_fals
 use Rattle.text.specs.Cut.{before, after, parted}
 use Rattle.text.specs.Decimals.{number_of}
 use Rattle.text.proofs.Numbers.{number_is}
-use Rattle.sheet.specs.declared.parts.Name.{Name}
 use Rattle.sheet.specs.declared.parts.Variable.{Variable}
 use Rattle.sheet.specs.declared.parts.Expression.{Expression}
 use Rattle.sheet.specs.declared.parts.Expression.TheVariants.{Num}
@@ -20,11 +19,8 @@ use Rattle.sheet.specs.Sizes.{size}
 use Rattle.sheet.specs.Writing.{spaced, variable_words, expression_words, statement_words, variable_line, expression_line, statement_line, run_line}
 use Rattle.sheet.specs.Limits.{name_of, declared, name_ok, variable_ok, expression_ok, statement_ok}
 use Rattle.lines.specs.declared.items.Fault.{Fault}
-use Rattle.lines.specs.declared.items.Fault.TheVariants as Fault
 use Rattle.drafts.specs.declared.items.Item.{Item}
-use Rattle.drafts.specs.declared.items.Item.TheVariants as Item
 use Rattle.lines.specs.declared.items.Keyword.{Keyword}
-use Rattle.lines.specs.declared.items.Keyword.TheVariants as Keyword
 use Rattle.lines.specs.declared.items.Role.TheVariants as Role
 use Rattle.drafts.specs.Said.{Said}
 use Rattle.lines.specs.Forms.{when, keyword_of, bare_expression, single_expression, double_expression, bare_statement, single_statement, double_statement, triple_statement, expression_roles, statement_roles, expression_with, statement_with}

@@ -8,7 +8,6 @@ use Rattle.drafts.specs.declared.items.Item.{Item}
 use Rattle.drafts.specs.Said.{Said, nothing, added}
 use Rattle.lines.specs.Reading.{line_of}
 use Rattle.verdict.specs.declared.refusals.Refusal.{Refusal}
-use Rattle.verdict.specs.declared.refusals.Refusal.TheVariants as Refusal
 
 -- the sheet that lines spell, where statement n is run
 abbrev pub sheet_of : Said → ℕ → Content

@@ -3,4 +3,4 @@ use Rattle.tried.proofs.All.{all_come_true}
 use Rattle.tried.proofs.trials.Goals as goal
 
 pub returns : goal.returns
-returns c = record { count = refl; come-true = all_come_true }
+returns c = record { count = refl; come_true = all_come_true }

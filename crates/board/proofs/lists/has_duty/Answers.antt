@@ -1,5 +1,5 @@
 -- The search finds a place exactly where the list has the duty.
-use Rattle.std.proofs.Common.{◌≡◌, ◌∙◌}
+use Rattle.std.proofs.Common.{◌∙◌}
 use Rattle.board.proofs.Finds.{found_has}
 use Rattle.board.proofs.lists.has_duty.Goals as goal
 

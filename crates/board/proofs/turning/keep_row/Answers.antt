@@ -8,7 +8,7 @@ returns-in-On c =
     let v = c.args.rows.now in
     record { items = keep_write (vec_items v) c.args.i c.args.j (vec_len v) c.index-row.result.now c.index-row.ensures c.requires.within v.ok.0 c.requires.before c.in-On.is; place = omega arith; size = refl; space = refl }
 
-pub returns-in-default : goal.returns-in-default
-returns-in-default c =
+pub returns-in_default : goal.returns-in_default
+returns-in_default c =
     let v = c.args.rows.now in
-    record { items = keep_skip (vec_items v) c.args.i c.args.j (vec_len v) c.index-row.result.now c.index-row.ensures c.requires.within v.ok.0 c.in-default.not-On; place = omega arith; size = refl; space = refl }
+    record { items = keep_skip (vec_items v) c.args.i c.args.j (vec_len v) c.index-row.result.now c.index-row.ensures c.requires.within v.ok.0 c.in_default.not-On; place = omega arith; size = refl; space = refl }

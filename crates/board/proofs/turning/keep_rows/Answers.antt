@@ -1,5 +1,5 @@
 -- At the end all rows that go on stand in front.
-use Rattle.std.proofs.Common.{◌≡◌, List, ◌++◌, take, vec_items, sym, ap, ◌∙◌, append-nil, arith}
+use Rattle.std.proofs.Common.{List, ◌++◌, take, vec_items, sym, ap, ◌∙◌, append-nil, arith}
 use Rattle.std.proofs.lemmas.List.{at_drop_all}
 use Rattle.board.specs.declared.parts.Row.{Row}
 use Rattle.board.specs.Store.{kept_rows}

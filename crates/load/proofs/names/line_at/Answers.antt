@@ -9,20 +9,20 @@ loop-i-init c =
     let t = c.args.text.now in
     (refl, ap (left 10 t) c.new-reader.ensures.place ∙ left_in 10 t 0 (omega arith), c.new-reader.ensures.place)
 
-pub returns-in-default : goal.returns-in-default
-returns-in-default c =
+pub returns-in_default : goal.returns-in_default
+returns-in_default c =
     let e = c.loop-i.invariant.0 ∙ c.new-reader.ensures.text in
-    let none = ap (λ (r : Bor (List ℕ)). left 10 r.now c.loop-i.reader.place) (sym e) ∙ c.in-default.ensures.cases.0 in
-    none_left (parted 10 c.args.text.now) c.loop-i.-i c.args.k (sym c.loop-i.invariant.1 ∙ none) (omega arith)
+    let none = ap (λ (r : Bor (List ℕ)). left 10 r.now c.loop-i.reader.place) (sym e) ∙ c.in_default.ensures.cases.0 in
+    none_left (parted 10 c.args.text.now) c.loop-i._i c.args.k (sym c.loop-i.invariant.1 ∙ none) (omega arith)
 
 pub loop-i-preserved : goal.loop-i-preserved
 loop-i-preserved c =
     let e = c.loop-i.invariant.0 ∙ c.new-reader.ensures.text in
     let h = c.in-Some.ensures.cases in
-    let came = line_came c.loop-i.reader.text c.args.text c.in-Some.-line c.loop-i.reader.place c.line.new.self.place c.loop-i.-i e c.loop-i.invariant.1 h in
+    let came = line_came c.loop-i.reader.text c.args.text c.in-Some._line c.loop-i.reader.place c.line.new.self.place c.loop-i._i e c.loop-i.invariant.1 h in
     (c.in-Some.ensures.text ∙ c.loop-i.invariant.0, sym came.more, omega (arith, h.2, came.place, c.loop-i.invariant.2))
 
 pub returns : goal.returns
 returns c =
-    line_last c.loop-i.reader.text c.args.text c.loop-i.reader.place c.line-2.new.self.place c.loop-i.-i c.args.k c.line-2.result
+    line_last c.loop-i.reader.text c.args.text c.loop-i.reader.place c.line-2.new.self.place c.loop-i._i c.args.k c.line-2.result
     (c.loop-i.invariant.0 ∙ c.new-reader.ensures.text) (omega arith) c.loop-i.invariant.1 c.loop-i.invariant.2 c.line-2.ensures.cases

@@ -5,5 +5,5 @@ use Rattle.load.proofs.names.line_at.Given as goal
 
 abbrev pub invariant-loop-i : goal.invariant-loop-i
 invariant-loop-i l =
-    (l.reader.text ≡ l.initial.reader.text) × (left 10 l.text l.reader.place ≡ drop l.-i (parted 10 l.text))
-    × (l.reader.place ≡ start_of (parted 10 l.text) l.-i)
+    (l.reader.text ≡ l.initial.reader.text) × (left 10 l.text l.reader.place ≡ drop l._i (parted 10 l.text))
+    × (l.reader.place ≡ start_of (parted 10 l.text) l._i)

@@ -1,5 +1,5 @@
 -- A row with an unknown end decides.
-use Rattle.std.proofs.Common.{◌≡◌, List, map, vec_items, vec_len, sym, ◌∙◌, arith}
+use Rattle.std.proofs.Common.{List, map, vec_items, vec_len, sym, ◌∙◌, arith}
 use Rattle.std.proofs.lemmas.List.{at_drop_all}
 use Rattle.meaning.specs.Runs.{all_ended}
 use Rattle.board.specs.declared.parts.Row.{Row}
@@ -15,7 +15,7 @@ returns-in-Unknown c =
 pub loop-i-preserved : goal.loop-i-preserved
 loop-i-preserved c =
     let b = c.args.self.now in
-    c.loop-i.invariant ∙ end_known (vec_items b.rows) b.next c.loop-i.i (vec_len b.rows) c.index-row.result.now b.ordered c.index-row.ensures (omega arith) b.rows.ok.0 c.in-default.not-Unknown
+    c.loop-i.invariant ∙ end_known (vec_items b.rows) b.next c.loop-i.i (vec_len b.rows) c.index-row.result.now b.ordered c.index-row.ensures (omega arith) b.rows.ok.0 c.in_default.not-Unknown
 
 pub returns : goal.returns
 returns c =

@@ -1,5 +1,5 @@
 -- The tables are those of state 0.
-use Rattle.std.proofs.Common.{◌≡◌, List, [], ◌∷◌, ◌++◌, ap, ◌∙◌}
+use Rattle.std.proofs.Common.{List, [], ◌∷◌, ◌++◌, ap, ◌∙◌}
 use Rattle.meaning.specs.declared.parts.Duty.{Duty}
 use Rattle.board.specs.declared.parts.Row.{Row}
 use Rattle.board.specs.Store.{no_row}

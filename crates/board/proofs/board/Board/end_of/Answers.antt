@@ -1,5 +1,5 @@
 -- The first row with the serial has the end.
-use Rattle.std.proofs.Common.{◌≡◌, List, vec_items, vec_len, sym, ◌∙◌, arith}
+use Rattle.std.proofs.Common.{List, vec_items, vec_len, sym, ◌∙◌, arith}
 use Rattle.std.proofs.lemmas.List.{at_drop_all}
 use Rattle.board.specs.declared.parts.Row.{Row}
 use Rattle.board.specs.Store.{ends_of}

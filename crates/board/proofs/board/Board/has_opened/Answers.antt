@@ -1,5 +1,5 @@
 -- A row whose span was opened so ends the search.
-use Rattle.std.proofs.Common.{◌≡◌, List, map, vec_items, vec_len, sym, ◌∙◌, arith}
+use Rattle.std.proofs.Common.{List, map, vec_items, vec_len, sym, ◌∙◌, arith}
 use Rattle.std.proofs.lemmas.List.{at_drop_all}
 use Rattle.meaning.specs.Work.{has_opened}
 use Rattle.board.specs.declared.parts.Row.{Row}

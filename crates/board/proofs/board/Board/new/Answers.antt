@@ -1,5 +1,4 @@
 -- The tables are empty.
-use Rattle.std.proofs.Common.{◌≡◌}
 use Rattle.board.proofs.Turned.{new_means}
 use Rattle.board.proofs.board.Board.new.Goals as goal
 

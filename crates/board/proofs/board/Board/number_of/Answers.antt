@@ -1,5 +1,5 @@
 -- Every number that is known is in its range, so none is passed over.
-use Rattle.std.proofs.Common.{◌≡◌, ℕ, ℤ, None, vec_items, Option, ap, ◌∙◌}
+use Rattle.std.proofs.Common.{ℕ, ℤ, None, vec_items, Option, ap, ◌∙◌}
 use Rattle.value.specs.declared.parts.End.{End}
 use Rattle.value.specs.Values.{known_at}
 use Rattle.meaning.specs.Intervals.{under}

@@ -1,5 +1,5 @@
 -- A span is opened where there is none so and both lists have room.
-use Rattle.std.proofs.Common.{◌≡◌, true, vec_items, vec_len, sym, ap, ◌∙◌, inl, inr, arith}
+use Rattle.std.proofs.Common.{true, sym, ap, ◌∙◌, inl, inr, arith}
 use Rattle.meaning.specs.Work.{Work, goes}
 use Rattle.board.specs.Held.{store}
 use Rattle.board.proofs.Rows.{open_full, open_new}

@@ -1,5 +1,5 @@
 -- A new row and a new duty are a new span.
-use Rattle.std.proofs.Common.{◌≡◌, ◌+◌, List, vec_items, refl, ap, ◌∙◌, arith}
+use Rattle.std.proofs.Common.{◌+◌, List, vec_items, refl, ap, ◌∙◌, arith}
 use Rattle.board.specs.declared.parts.Row.{Row}
 use Rattle.board.specs.Held.{store}
 use Rattle.board.specs.Store.{rising}
@@ -8,16 +8,13 @@ use Rattle.board.proofs.board.Board.push_span.Goals as goal
 
 pub invariant_of-self : goal.invariant_of-self
 invariant_of-self c =
-    let b = c.args.self.now in (
-      (omega arith, omega arith, omega arith),
-      (
-        (omega arith, omega arith, omega arith),
-        (
-          ap (λ (x : List Row). rising 0 x (b.next + 1)) c.push_reserved.ensures.items ∙ rising-push 0 (vec_items b.rows) b.next (new_row c.args.opening b.next) refl b.ordered,
-          ((omega arith, omega arith), tt),
-        ),
-      ),
-    )
+    let b = c.args.self.now in
+    record {
+      few = (omega arith, omega arith, omega arith);
+      room = (omega arith, omega arith, omega arith);
+      ordered = ap (λ (x : List Row). rising 0 x (b.next + 1)) c.push_reserved.ensures.items ∙ rising-push 0 (vec_items b.rows) b.next (new_row c.args.opening b.next) refl b.ordered;
+      counted = (omega arith, omega arith);
+    }
 
 pub returns : goal.returns
 returns c = let b = c.args.self.now in push_means (store b) c.args.opening _ _ b.ordered c.push_reserved.ensures.items c.push_reserved-2.ensures.items

@@ -7,9 +7,14 @@ use Rattle.board.proofs.board.Board.set_end.Goals as goal
 pub invariant_of-self : goal.invariant_of-self
 invariant_of-self c =
     let b = c.args.self.now in
-    (b.few, (b.room, (write_rising (vec_items b.rows) c.place_of-i.result (vec_len b.rows) b.next c.index-mut.result.now c.args.end c.index-mut.ensures.value (omega (arith, c.place_of-i.ensures.0, b.rows.ok.0)) b.rows.ok.0 b.ordered, (b.counted, tt))))
+    record {
+      few = b.few;
+      room = b.room;
+      ordered = write_rising (vec_items b.rows) c.place_of-i.result (vec_len b.rows) b.next c.index_mut.result.now c.args.end c.index_mut.ensures.value (omega (arith, c.place_of-i.ensures.0, b.rows.ok.0)) b.rows.ok.0 b.ordered;
+      counted = b.counted;
+    }
 
 pub returns : goal.returns
 returns c =
     let b = c.args.self.now in
-    write_means (store b) c.place_of-i.result (vec_len b.rows) c.args.serial c.index-mut.result.now c.args.end c.index-mut.ensures.value b.rows.ok.0 c.place_of-i.ensures b.ordered
+    write_means (store b) c.place_of-i.result (vec_len b.rows) c.args.serial c.index_mut.result.now c.args.end c.index_mut.ensures.value b.rows.ok.0 c.place_of-i.ensures b.ordered
