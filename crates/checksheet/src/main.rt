@@ -1,4 +1,6 @@
 // Tells whether the text on standard input is a sheet: its counts and its names, or why it is refused.
+#![tactic(auto)]
+
 use load::{Loader, Refusal};
 use std::io;
 use std::io::{Read, Write};

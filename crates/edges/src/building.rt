@@ -1,7 +1,8 @@
 // How texts are built, and how their answers are checked. In the texts of these tests `/`, which no sheet has, ends a line.
 use load::{Loader, Refusal};
 use std::alloc::{AllocError, Global};
-use std::test::*;
+use std::process::Abort;
+use std::test::Fail;
 
 // A loader, and a text that is built for it.
 #[derive(Drop)]
@@ -42,24 +43,27 @@ impl Bench {
     }
 
     // Checks how the text is answered: `accepted`, or what is told of its refusal. Then it is empty again.
-    fn answered(&mut self, heap: Global, told: &str) -> Result<(), Fail> {
+    // Where the answer is another one, `row` is shown.
+    fn answered(
+        &mut self,
+        rt: &impl Abort,
+        heap: Global,
+        told: &str,
+        row: &str,
+    ) -> Result<(), Fail> {
         let answer = self.loader.load(&self.text);
         self.text.clear();
         match answer {
-            Ok(()) => {
-                assert_eq!("accepted", told);
-                Ok(())
-            },
-            Err(refusal) => {
-                assert_eq!(told_of(heap, refusal)?.as_str(), told);
-                Ok(())
-            },
+            Ok(()) => assert_eq!(rt; "accepted", told, "{row}"),
+            Err(refusal) => assert_eq!(rt; told_of(heap, refusal)?.as_str(), told, "{row}"),
         }
+        Ok(())
     }
 
     // Checks the answer to a text that has a part `n` times.
     pub(crate) fn long(
         &mut self,
+        rt: &impl Abort,
         heap: Global,
         start: &str,
         part: &str,
@@ -70,23 +74,29 @@ impl Bench {
         self.add(start)?;
         self.repeat(part, n)?;
         self.add(end)?;
-        self.answered(heap, told)
+        self.answered(rt, heap, told, part)
     }
 
     // Checks the answer to a text that begins with `start`. The row has the answer and the rest of the text.
-    fn row(&mut self, heap: Global, start: &str, row: &str) -> Result<(), Fail> {
+    fn row(&mut self, rt: &impl Abort, heap: Global, start: &str, row: &str) -> Result<(), Fail> {
         let Some((told, rest)) = row.split_once(": ") else {
             return Err(Fail::new("a row has no answer"));
         };
         self.add(start)?;
         self.add(rest)?;
-        self.answered(heap, told).note(row)
+        self.answered(rt, heap, told, row)
     }
 
     // The same for each row of a table.
-    pub(crate) fn rows(&mut self, heap: Global, start: &str, table: &str) -> Result<(), Fail> {
+    pub(crate) fn rows(
+        &mut self,
+        rt: &impl Abort,
+        heap: Global,
+        start: &str,
+        table: &str,
+    ) -> Result<(), Fail> {
         for row in table.lines() {
-            self.row(heap, start, row)?;
+            self.row(rt, heap, start, row)?;
         }
         Ok(())
     }
@@ -94,17 +104,21 @@ impl Bench {
 
 // Checks the answer to a text that has a part `n` times, of a loader of its own.
 pub(crate) fn check_long(
-    rt: &HostRuntime,
+    rt: &(impl Abort + AllocGlobal),
     start: &str,
     part: &str,
     n: usize,
     end: &str,
     told: &str,
 ) -> Result<(), Fail> {
-    Bench::new(rt.alloc())?.long(rt.alloc(), start, part, n, end, told)
+    Bench::new(rt.alloc())?.long(rt, rt.alloc(), start, part, n, end, told)
 }
 
 // Checks the answers to the rows of a table, of a loader of its own.
-pub(crate) fn check_table(rt: &HostRuntime, start: &str, table: &str) -> Result<(), Fail> {
-    Bench::new(rt.alloc())?.rows(rt.alloc(), start, table)
+pub(crate) fn check_table(
+    rt: &(impl Abort + AllocGlobal),
+    start: &str,
+    table: &str,
+) -> Result<(), Fail> {
+    Bench::new(rt.alloc())?.rows(rt, rt.alloc(), start, table)
 }

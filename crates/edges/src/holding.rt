@@ -3,7 +3,7 @@ use crate::building::Bench;
 use load::Loader;
 use std::alloc::Global;
 use std::process::Abort;
-use std::test::*;
+use std::test::Fail;
 
 const REFUSED: &str = "\
 2 0 0: sheet=2
@@ -32,8 +32,8 @@ fn keeps(
     counts: [usize; 3],
     run: u16,
 ) -> Result<(), Fail> {
-    bench.rows(heap, "", row)?;
-    bench.rows(heap, "", REFUSED)?;
+    bench.rows(rt, heap, "", row)?;
+    bench.rows(rt, heap, "", REFUSED)?;
     holds(rt, &bench.loader, counts, run)
 }
 
@@ -56,15 +56,10 @@ fn named(
     name: &[u8],
 ) -> Result<(), Fail> {
     match loader.variable_name(text, k) {
-        Some(letters) => {
-            assert!(rt; letters == name);
-            Ok(())
-        },
-        None => {
-            assert!(rt; name.len() == 0);
-            Ok(())
-        },
+        Some(letters) => assert!(rt; letters == name),
+        None => assert!(rt; name.len() == 0),
     }
+    Ok(())
 }
 
 const NAMED: &[u8] = b"sheet=2\nvar=abcdefghijkl -5 5\nvar=b 0 0\nstmt=empty\nrun=0\n";

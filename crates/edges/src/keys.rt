@@ -1,6 +1,6 @@
 // Refusals of a line's key, and of one line too many: 5 and 6.
 use crate::building::{check_long, check_table};
-use std::test::*;
+use std::test::Fail;
 
 const ORDER: &str = "\
 5 2 0: /

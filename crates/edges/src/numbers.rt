@@ -3,7 +3,7 @@ use load::{Loader, Sheet};
 use std::fmt;
 use std::fmt::Write;
 use std::process::Abort;
-use std::test::*;
+use std::test::Fail;
 use value::{End, Memo, evaluate};
 
 // The variables' numbers as far as they are known, what is known of the end, an expression, and its number.

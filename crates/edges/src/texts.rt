@@ -1,6 +1,6 @@
 // Refusals of a whole text, of its first line, of a long line, and of a text that ends too early: 1, 2, 3, 4 and 12.
 use crate::building::{check_long, check_table};
-use std::test::*;
+use std::test::Fail;
 
 // A text has 1 to 16,384 bytes. At 16,384 the lines decide.
 #[test]

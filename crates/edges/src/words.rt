@@ -1,6 +1,6 @@
 // Refusals of a line's words: 7, 8, 9, 10 and 11.
 use crate::building::check_table;
-use std::test::*;
+use std::test::Fail;
 
 const FORMS: &str = "\
 7 3 0: var=b 0/

@@ -1,4 +1,6 @@
 // What a visit to a duty and a visit to a span do.
+#![tactic(auto)]
+
 mod opening;
 mod plain;
 mod spans;

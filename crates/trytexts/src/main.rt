@@ -1,5 +1,7 @@
 // Loads a text for each line of standard input, and prints how it was answered: `accepted`, or the
 // refusal's number, line and word. In a line of the input `/`, which no sheet has, stands for byte 10.
+#![tactic(auto)]
+
 use load::Loader;
 use std::io;
 use std::io::{BufRead, BufReader};

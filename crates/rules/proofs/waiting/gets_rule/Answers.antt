@@ -1,5 +1,5 @@
 -- The variable takes the number that was carried.
-use Rattle.std.proofs.Common.{◌≡◌, ℤ, Option, sym, ap, ◌∙◌, w64, SFits, rules}
+use Rattle.std.proofs.Common.{ℤ, Option, sym, ap, ◌∙◌, w64, SFits, rules}
 use Rattle.std.proofs.lemmas.Int.{to_z-of_z}
 use Rattle.sheet.specs.declared.parts.Statement.TheVariants.{Gets}
 use Rattle.meaning.specs.Intervals.{under}

@@ -1,5 +1,5 @@
 -- The number is known, and the variable takes it.
-use Rattle.std.proofs.Common.{◌≡◌, ℤ, Option, ap, ◌∙◌, w64, SFits, rules}
+use Rattle.std.proofs.Common.{ℤ, Option, ap, ◌∙◌, w64, SFits, rules}
 use Rattle.std.proofs.lemmas.Int.{to_z-of_z}
 use Rattle.meaning.specs.Intervals.{under}
 use Rattle.meaning.specs.Effects.{give}
