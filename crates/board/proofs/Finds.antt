@@ -13,7 +13,7 @@ use Rattle.meaning.specs.Intervals.{Setting}
 use Rattle.meaning.specs.Order.{FitSays}
 use Rattle.meaning.specs.Orders.{by_duty}
 use Rattle.meaning.specs.Work.{same_duty, has_duty}
-use Rattle.meaning.specs.Sorted.{duty_one, duty_same}
+use Rattle.meaning.proofs.Sorted.{duty_one, duty_same}
 use Rattle.meaning.proofs.Tests.{same_duty_says, duty_itself}
 
 some_later : (o : Option ℕ) → is_some (later o) ≡ is_some o

@@ -1,3 +1,5 @@
+#![tactic(auto)]
+
 // Tests of loading and of evaluation at the edges of their rules. They stand apart, so that no other crate is proved twice.
 #[cfg(test)]
 mod building;

@@ -3,7 +3,7 @@ ghost use Rattle.std.specs.Prelude.{◌≡◌};
 ghost use Rattle.search.specs.declared.order.Side.TheVariants.{Lower, Same};
 ghost use Rattle.feed.specs.Lists.{by_reading, listed};
 ghost use Rattle.search.specs.Totals.{total_of};
-ghost use Rattle.feed.specs.RecordsLemmas.{fair_reading};
+ghost use Rattle.feed.specs.Sorted.{fair_reading};
 
 use crate::feed::{Feed, STATES, VARIABLES};
 use search::{Order, Side};

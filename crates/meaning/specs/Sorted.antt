@@ -1,11 +1,10 @@
--- The order of duties is total, and duties that it does not tell apart are one.
+-- The order of duties is total. It stands in specs/ because an impl names it; a reader need not believe it, since it is proved.
 use Rattle.std.specs.Prelude.{◌≡◌, ℕ, Bool, true, false, ℤ, pos, negsuc, Some, None, Option, ◌≢◌, int_lt, refl}
 use Rattle.std.proofs.Common.{ap, arith}
 use Rattle.std.proofs.lemmas.Bool.{true≢false, false≢true, ltb-true, ltb-false, lt-ltb}
-use Rattle.search.specs.declared.order.Side.{Side}
-use Rattle.search.specs.declared.order.Side.TheVariants.{Lower, Same, Higher}
+use Rattle.search.specs.declared.order.Side.TheVariants.{Lower, Same}
 use Rattle.search.specs.Sides.{then, by_number}
-use Rattle.search.specs.Totals.{Fair, total_of, flipped, fair_number, fair_on, fair_then, number_same, sided, sided-flips, sided_lower, sided_same}
+use Rattle.search.specs.Totals.{Fair, flipped, fair_number, fair_on, fair_then, sided, sided-flips, sided_lower, sided_same}
 use Rattle.meaning.specs.declared.parts.Duty.{Duty}
 use Rattle.meaning.specs.Orders.{by_size, by_option, by_duty}
 
@@ -57,7 +56,7 @@ option_chains (Some u) None c p q = let w : ◌≡◌ {A = ℕ} 0 1 = cc in absu
 option_chains (Some u) (Some v) None p q = let w : ◌≡◌ {A = ℕ} 0 1 = cc in absurd (omega arith)
 option_chains (Some u) (Some v) (Some z) p q = fair_size.chains u v z p q
 
-option_same : (a b : Option ℤ) → by_option a b ≡ Same → a ≡ b
+pub option_same : (a b : Option ℤ) → by_option a b ≡ Same → a ≡ b
 option_same None None p = refl
 option_same None (Some v) p = let w : ◌≡◌ {A = ℕ} 0 1 = cc in absurd (omega arith)
 option_same (Some u) None p = let w : ◌≡◌ {A = ℕ} 0 1 = cc in absurd (omega arith)
@@ -81,22 +80,3 @@ fair_duty =
     fair_then (λ (a b : Duty). by_number a.statement b.statement) (λ (a b : Duty). then (by_number a.span b.span) (by_option a.number b.number))
     (fair_on by_number statement_of fair_number)
     (fair_then (λ (a b : Duty). by_number a.span b.span) (λ (a b : Duty). by_option a.number b.number) (fair_on by_number span_in fair_number) (fair_on by_option number_in fair_option))
-
-both_same : (s t : Side) → then s t ≡ Same → (s ≡ Same) × (t ≡ Same)
-both_same Lower t e = let z : ◌≡◌ {A = ℕ} 0 1 = cc in absurd (omega arith)
-both_same Same t e = (refl, e)
-both_same Higher t e = let z : ◌≡◌ {A = ℕ} 0 1 = cc in absurd (omega arith)
-
--- duties that compare as the same are one
-pub duty_one : (a b : Duty) → by_duty a b ≡ Same → a ≡ b
-duty_one a b e =
-    let p = both_same (by_number a.statement b.statement) (then (by_number a.span b.span) (by_option a.number b.number)) e in
-    let q = both_same (by_number a.span b.span) (by_option a.number b.number) p.1 in
-    let x = number_same a.statement b.statement p.0 in
-    let y = option_same a.number b.number q.1 in
-    let z = number_same a.span b.span q.0 in
-    λ i. record { statement = x i; number = y i; span = z i }
-
--- and a duty compares as the same with itself
-pub duty_same : (a : Duty) → by_duty a a ≡ Same
-duty_same a = (total_of by_duty fair_duty).itself a

@@ -1,6 +1,6 @@
 // The rules that wait for no number.
 ghost use Rattle.std.specs.Prelude.{◌≡◌};
-ghost use Rattle.value.specs.declared.parts.End.TheVariants.{On as on-end};
+ghost use Rattle.value.specs.declared.parts.End.TheVariants.{On as on_end};
 ghost use Rattle.meaning.specs.Order.{Lives};
 ghost use Rattle.meaning.specs.Work.{and_then, plain, numbered};
 ghost use Rattle.meaning.specs.Effects.{put as putting, add as adding, carry as carrying};
@@ -37,7 +37,7 @@ pub(crate) fn with_number(duty: Duty, number: i64) -> Duty
 // The duty's span is on, and another duty is carried.
 pub(crate) fn on_and_carry(board: &mut Board, duty: Duty, next: Duty) -> Result<bool, Stop>
     requires { Lives (held board.old).spans duty.span }
-    ensures { told result (held board.new) ≡ and_then (putting duty.statement on-end duty.span (held board.old)) (carrying next) }
+    ensures { told result (held board.new) ≡ and_then (putting duty.statement on_end duty.span (held board.old)) (carrying next) }
 {
     let changed = board.put(duty.statement, End::On, duty.span)?;
     after(changed, board.carry(next))

@@ -1,6 +1,6 @@
 // The rules that wait for a number.
 ghost use Rattle.std.specs.Prelude.{◌≡◌, ℕ, ◌<◌, ℤ, vec_len, Option as Maybe};
-ghost use Rattle.sheet.specs.declared.parts.Statement.TheVariants.{Is as is-so, If as if-so, Halt as halt-so, Len as len-so, Gets as Gets-so, For as for-so, While as while-so, Request as request-so};
+ghost use Rattle.sheet.specs.declared.parts.Statement.TheVariants.{Is as is_so, If as if_so, Halt as halt_so, Len as len_so, Gets as gets_so, For as for_so, While as while_so, Request as request_so};
 ghost use Rattle.meaning.specs.Intervals.{under};
 ghost use Rattle.meaning.specs.Order.{Lives, FitSays};
 ghost use Rattle.meaning.specs.Rules.{rule};
@@ -28,7 +28,7 @@ pub(crate) fn is_rule<F: Feed>(
 ) -> Result<bool, Stop>
     requires variable { x < vec_len sheet.now.tables.variables }
     requires fitted { (f : ℕ → ℕ → Maybe ℤ) (y : ℕ) → FitSays (under (sheet_of sheet.now) f) y ((held board.old).known y) }
-    ensures { told result (held board.new) ≡ rule (under (sheet_of sheet.now) (F.Feed.readings feed.now)) state (is-so x e) duty.number duty (held board.old) }
+    ensures { told result (held board.new) ≡ rule (under (sheet_of sheet.now) (F.Feed.readings feed.now)) state (is_so x e) duty.number duty (held board.old) }
 {
     match board.number_of(sheet, duty.span, e, memo) {
         Some(v) => board.give(sheet, duty.statement, x, v),
@@ -49,7 +49,7 @@ pub(crate) fn if_rule<F: Feed>(
     q: u16,
 ) -> Result<bool, Stop>
     requires fitted { (f : ℕ → ℕ → Maybe ℤ) (y : ℕ) → FitSays (under (sheet_of sheet.now) f) y ((held board.old).known y) }
-    ensures { told result (held board.new) ≡ rule (under (sheet_of sheet.now) (F.Feed.readings feed.now)) state (if-so e p q) duty.number duty (held board.old) }
+    ensures { told result (held board.new) ≡ rule (under (sheet_of sheet.now) (F.Feed.readings feed.now)) state (if_so e p q) duty.number duty (held board.old) }
 {
     match board.number_of(sheet, duty.span, e, memo) {
         Some(v) => {
@@ -72,7 +72,7 @@ pub(crate) fn halt_rule<F: Feed>(
 ) -> Result<bool, Stop>
     requires lives { Lives (held board.old).spans duty.span }
     requires fitted { (f : ℕ → ℕ → Maybe ℤ) (y : ℕ) → FitSays (under (sheet_of sheet.now) f) y ((held board.old).known y) }
-    ensures { told result (held board.new) ≡ rule (under (sheet_of sheet.now) (F.Feed.readings feed.now)) state (halt-so e) duty.number duty (held board.old) }
+    ensures { told result (held board.new) ≡ rule (under (sheet_of sheet.now) (F.Feed.readings feed.now)) state (halt_so e) duty.number duty (held board.old) }
 {
     match board.number_of(sheet, duty.span, e, memo) {
         Some(v) => halt_by(board, duty, v),
@@ -92,7 +92,7 @@ pub(crate) fn len_rule<F: Feed>(
 ) -> Result<bool, Stop>
     requires lives { Lives (held board.old).spans duty.span }
     requires fitted { (f : ℕ → ℕ → Maybe ℤ) (y : ℕ) → FitSays (under (sheet_of sheet.now) f) y ((held board.old).known y) }
-    ensures { told result (held board.new) ≡ rule (under (sheet_of sheet.now) (F.Feed.readings feed.now)) state (len-so e) duty.number duty (held board.old) }
+    ensures { told result (held board.new) ≡ rule (under (sheet_of sheet.now) (F.Feed.readings feed.now)) state (len_so e) duty.number duty (held board.old) }
 {
     if let Some(c) = duty.number {
         return len_by(board, duty, c);
@@ -116,7 +116,7 @@ pub(crate) fn gets_rule<F: Feed>(
 ) -> Result<bool, Stop>
     requires variable { x < vec_len sheet.now.tables.variables }
     requires fitted { (f : ℕ → ℕ → Maybe ℤ) (y : ℕ) → FitSays (under (sheet_of sheet.now) f) y ((held board.old).known y) }
-    ensures { told result (held board.new) ≡ rule (under (sheet_of sheet.now) (F.Feed.readings feed.now)) state (Gets-so x e) duty.number duty (held board.old) }
+    ensures { told result (held board.new) ≡ rule (under (sheet_of sheet.now) (F.Feed.readings feed.now)) state (gets_so x e) duty.number duty (held board.old) }
 {
     if let Some(v) = duty.number {
         return board.give(sheet, duty.statement, x, v);
@@ -143,7 +143,7 @@ pub(crate) fn for_rule<F: Feed>(
 ) -> Result<bool, Stop>
     requires lives { Lives (held board.old).spans duty.span }
     requires fitted { (f : ℕ → ℕ → Maybe ℤ) (y : ℕ) → FitSays (under (sheet_of sheet.now) f) y ((held board.old).known y) }
-    ensures { told result (held board.new) ≡ rule (under (sheet_of sheet.now) (F.Feed.readings feed.now)) state (for-so e p) duty.number duty (held board.old) }
+    ensures { told result (held board.new) ≡ rule (under (sheet_of sheet.now) (F.Feed.readings feed.now)) state (for_so e p) duty.number duty (held board.old) }
 {
     if let Some(c) = duty.number {
         return for_by(board, duty, p, c);
@@ -167,7 +167,7 @@ pub(crate) fn while_rule<F: Feed>(
 ) -> Result<bool, Stop>
     requires lives { Lives (held board.old).spans duty.span }
     requires fitted { (f : ℕ → ℕ → Maybe ℤ) (y : ℕ) → FitSays (under (sheet_of sheet.now) f) y ((held board.old).known y) }
-    ensures { told result (held board.new) ≡ rule (under (sheet_of sheet.now) (F.Feed.readings feed.now)) state (while-so e p) duty.number duty (held board.old) }
+    ensures { told result (held board.new) ≡ rule (under (sheet_of sheet.now) (F.Feed.readings feed.now)) state (while_so e p) duty.number duty (held board.old) }
 {
     match board.number_of(sheet, duty.span, e, memo) {
         Some(v) => while_by(board, duty, p, v),
@@ -185,7 +185,7 @@ pub(crate) fn request_rule<F: Feed>(
     x: u16,
 ) -> Result<bool, Stop>
     requires variable { x < vec_len sheet.now.tables.variables }
-    ensures { told result (held board.new) ≡ rule (under (sheet_of sheet.now) (F.Feed.readings feed.now)) state (request-so x) duty.number duty (held board.old) }
+    ensures { told result (held board.new) ≡ rule (under (sheet_of sheet.now) (F.Feed.readings feed.now)) state (request_so x) duty.number duty (held board.old) }
 {
     match feed.reading(x as usize, state as usize) {
         Some(v) => board.give(sheet, duty.statement, x, v),

@@ -1,4 +1,4 @@
--- Comparisons that are total orders. Assumes nothing.
+-- Comparisons that are total orders. They stand in specs/ because an impl names them; a reader need not believe them, since they are proved.
 use Rattle.std.specs.Prelude.{◌≡◌, ℕ, Bool, true, false, cond, ltb, ◌⊎◌, List, [], ◌∷◌, ◌≢◌, nat_lt, refl}
 use Rattle.std.proofs.Common.{sym, ap, ◌∙◌, inl, inr, arith}
 use Rattle.search.specs.declared.order.Side.{Side}

@@ -1,3 +1,4 @@
 pub mod Founding
 pub mod Spelling
+pub mod Alike
 pub mod Tabled

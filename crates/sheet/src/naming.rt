@@ -4,7 +4,7 @@ ghost use Rattle.search.specs.Sides.{by_bytes};
 ghost use Rattle.search.specs.declared.order.Side.TheVariants.{Lower, Same};
 ghost use Rattle.sheet.specs.Limits.{name_of, number_of_name};
 ghost use Rattle.search.specs.Totals.{total_of};
-ghost use Rattle.sheet.specs.Alike.{by_name, fair_name};
+ghost use Rattle.sheet.specs.Sorted.{by_name, fair_name};
 
 use crate::parts::{Name, Variable};
 use search::{Order, Side};

@@ -1,7 +1,8 @@
 use Rattle.std.proofs.Common.{◌≡◌}
 use Rattle.search.specs.declared.order.Side.TheVariants.{Same}
 use Rattle.sheet.specs.declared.parts.Variable.{Variable}
-use Rattle.sheet.specs.Alike.{by_name, first_named, place_within}
+use Rattle.sheet.specs.Sorted.{by_name}
+use Rattle.sheet.proofs.Alike.{first_named, place_within}
 use Rattle.sheet.proofs.naming.find_variable.Goals as goal
 
 pub returns : goal.returns

@@ -2,7 +2,7 @@
 use Rattle.std.proofs.Common.{get_or, ℤ, Some, None, ap, ◌∙◌, arith, w64, SFits, rules}
 use Rattle.std.proofs.lemmas.Int.{to_z-of_z}
 use Rattle.feed.specs.Lists.{first}
-use Rattle.feed.specs.RecordsLemmas.{wanted, first_found, in_range_same, in_range_none}
+use Rattle.feed.proofs.Records.{wanted, first_found, in_range_same, in_range_none}
 use Rattle.feed.proofs.list.ListFeedFeed.reading.Goals as goal
 
 pub returns-in-Some : goal.returns-in-Some

@@ -1,5 +1,5 @@
 use Rattle.search.specs.Totals.{lies-of}
-use Rattle.sheet.specs.Alike.{by_name, fair_name}
+use Rattle.sheet.specs.Sorted.{by_name, fair_name}
 use Rattle.sheet.proofs.naming.VariableOrder.compare.Goals as goal
 
 pub returns : goal.returns

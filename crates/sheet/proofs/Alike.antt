@@ -1,23 +1,15 @@
 -- Variables in the order of their names. Assumes nothing.
-use Rattle.std.specs.Prelude.{◌≡◌, ℕ, ◌<◌, List, length, IfSome, Some, None, Option}
-use Rattle.std.proofs.Common.{sym, ap, ◌∙◌}
+use Rattle.std.proofs.Common.{◌≡◌, ℕ, ◌<◌, List, length, IfSome, Some, None, Option, sym, ap, ◌∙◌}
 use Rattle.std.specs.Str.{bytes_eq}
 use Rattle.std.proofs.lemmas.Slice.Eq.{bytes_eq-Decides}
-use Rattle.search.specs.declared.order.Side.{Side}
 use Rattle.search.specs.declared.order.Side.TheVariants.{Same}
 use Rattle.search.specs.Order.{FirstPlace}
 use Rattle.search.specs.Sides.{by_bytes}
-use Rattle.search.specs.Totals.{Fair, fair_on, fair_bytes, bytes_same, bytes_refl}
+use Rattle.search.specs.Totals.{bytes_same, bytes_refl}
 use Rattle.search.proofs.Places.{first_place_by}
 use Rattle.sheet.specs.declared.parts.Variable.{Variable}
 use Rattle.sheet.specs.Limits.{number_of_name}
-
--- the comparison by name
-abbrev pub by_name : Variable → Variable → Side
-by_name v w = by_bytes v.name.letters w.name.letters
-
-pub fair_name : Fair by_name
-fair_name = fair_on by_bytes (λ (v : Variable). v.name.letters) fair_bytes
+use Rattle.sheet.specs.Sorted.{by_name}
 
 -- the search for a variable with the name of v finds the first variable that has it
 pub first_named : (vs : List Variable) (v : Variable) (r : Option ℕ) → FirstPlace (λ (x y : Variable). by_name x y ≡ Same) vs v r → r ≡ number_of_name vs v.name

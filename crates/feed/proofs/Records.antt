@@ -1,30 +1,14 @@
--- Records in their order, and what a search among them finds. Assumes nothing.
-use Rattle.std.specs.Prelude.{◌≡◌, ℕ, ◌<◌, Bool, true, false, cond, List, [], ◌∷◌, ℤ, pos, Some, None, Option, ◌==◌, nat_eq, nat_lt, slice_index_or, refl}
-use Rattle.std.proofs.Common.{sym, ap, ◌∙◌, arith}
+-- What a search among records finds. Assumes nothing.
+use Rattle.std.proofs.Common.{◌≡◌, ℕ, ◌<◌, Bool, true, false, cond, List, [], ◌∷◌, ℤ, pos, Some, None, Option, ◌==◌, nat_eq, nat_lt, slice_index_or, refl, sym, ap, ◌∙◌, arith}
 use Rattle.search.specs.declared.order.Side.{Side}
 use Rattle.search.specs.declared.order.Side.TheVariants.{Lower, Same, Higher}
 use Rattle.search.specs.Order.{FirstPlace, place_by, later}
 use Rattle.search.specs.Sides.{then, by_number}
-use Rattle.search.specs.Totals.{Fair, fair_number, fair_on, fair_then, number_same}
+use Rattle.search.specs.Totals.{number_same}
 use Rattle.search.proofs.Places.{first_place_by}
 use Rattle.feed.specs.declared.list.Reading.{Reading}
 use Rattle.feed.specs.Readings.{ranged, in_range}
 use Rattle.feed.specs.Lists.{matches, first, by_reading}
-
--- the state of a record
-abbrev state_of : Reading → ℕ
-state_of r = r.state
-
--- the variable of a record
-abbrev variable_of : Reading → ℕ
-variable_of r = r.variable
-
--- the comparison of records is fair
-pub fair_reading : Fair by_reading
-fair_reading =
-    fair_then (λ (r s : Reading). by_number r.state s.state) (λ (r s : Reading). by_number r.variable s.variable)
-    (fair_on by_number state_of fair_number)
-    (fair_on by_number variable_of fair_number)
 
 -- an answer in two steps is the same where both steps are
 both_same : (s t : Side) → then s t ≡ Same → (s ≡ Same) × (t ≡ Same)
