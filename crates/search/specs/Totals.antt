@@ -1,5 +1,5 @@
 -- Comparisons that are total orders. They stand in specs/ because an impl names them; a reader need not believe them, since they are proved.
-use Rattle.std.specs.Prelude.{◌≡◌, ℕ, Bool, true, false, cond, ltb, ◌⊎◌, List, [], ◌∷◌, ◌≢◌, nat_lt, refl}
+use Rattle.std.specs.Prelude.{◌≡◌, ℕ, Bool, true, false, cond, ◌⊎◌, List, [], ◌∷◌, ◌≢◌, nat_lt, refl}
 use Rattle.std.proofs.Common.{sym, ap, ◌∙◌, inl, inr, arith}
 use Rattle.search.specs.declared.order.Side.{Side}
 use Rattle.search.specs.declared.order.Side.TheVariants.{Lower, Same, Higher}
@@ -145,7 +145,7 @@ fair_number = record {
   chains = λ x y z p q.
       let a = sided_lower (nat_lt x y) (nat_lt y x) p in
       let b = sided_lower (nat_lt y z) (nat_lt z y) q in
-      let c : ltb x z ≡ true = grind arith in
+      let c : nat_lt x z ≡ true = grind arith in
       ap (λ (w : Bool). sided w (nat_lt z x)) c;
   carries = λ x y z p. ap (λ (w : ℕ). by_number w z) (number_same x y p);
 }
