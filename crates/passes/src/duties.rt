@@ -3,7 +3,7 @@ ghost use Rattle.std.specs.Prelude.{◌≡◌, ◌||◌, length, Some as some, O
 ghost use Rattle.std.specs.List.{slice_get};
 ghost use Rattle.sheet.specs.declared.parts.Statement.TheVariants.{True as true-so};
 ghost use Rattle.meaning.specs.Intervals.{under, statement_at};
-ghost use Rattle.meaning.specs.Order.{Tidy};
+ghost use Rattle.meaning.specs.Order.{Tidy, Later};
 ghost use Rattle.meaning.specs.Passes.{pass_fuel, visit_duties};
 ghost use Rattle.meaning.specs.Rules.{visit};
 ghost use Rattle.board.specs.Answers.{told};
@@ -79,6 +79,8 @@ pub(crate) fn visit_duties<F: Feed>(
     requires long { length marks.old ≡ 512 }
     ensures visited { told result (held board.new) ≡ visit_duties (under (sheet_of sheet.now) (F.Feed.readings feed.now)) state pass_fuel 0 (held board.old) }
     ensures marked { OnOk result (Marked (under (sheet_of sheet.now) (F.Feed.readings feed.now)) state (held board.new) marks.new) }
+    ensures tidy { OnOk result (Tidy (under (sheet_of sheet.now) (F.Feed.readings feed.now)) (held board.new)) }
+    ensures later { OnOk result (Later (held board.old) (held board.new)) }
 {
     let mut changed = false;
     let mut i = 0;

@@ -1,4 +1,6 @@
 // Passes over the work of a state, until one changes nothing.
+#![tactic(auto)]
+
 mod duties;
 mod marks;
 mod settling;

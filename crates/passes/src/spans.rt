@@ -2,7 +2,7 @@
 ghost use Rattle.std.specs.Prelude.{◌≡◌, length, Some as some, OnOk};
 ghost use Rattle.std.specs.List.{slice_get};
 ghost use Rattle.meaning.specs.Intervals.{Setting};
-ghost use Rattle.meaning.specs.Order.{Tidy};
+ghost use Rattle.meaning.specs.Order.{Tidy, Later};
 ghost use Rattle.meaning.specs.Passes.{visit_spans};
 ghost use Rattle.meaning.specs.Rules.{visit_span};
 ghost use Rattle.board.specs.Answers.{told};
@@ -44,6 +44,8 @@ pub(crate) fn visit_spans(board: &mut Board, marks: &mut [bool]) -> Result<bool,
     requires long { length marks.old ≡ 64 }
     ensures visited { told result (held board.new) ≡ visit_spans (held board.old).spans (held board.old) }
     ensures marked { OnOk result (MarkedSpans (held board.new) marks.new) }
+    ensures tidy { OnOk result ((S : Setting) → Tidy S (held board.old) → Tidy S (held board.new)) }
+    ensures later { OnOk result (Later (held board.old) (held board.new)) }
 {
     let mut changed = false;
     let mut i = 0;

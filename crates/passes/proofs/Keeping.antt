@@ -1,0 +1,126 @@
+-- What a visit keeps: the order of the work, and what was so before it.
+use Rattle.std.proofs.Common.{◌≡◌, ℕ, Bool, true, ltb, List, length, Some, None, Option, sym, refl, subst}
+use Rattle.std.specs.List.{slice_get}
+use Rattle.std.proofs.lemmas.Bool.{cond_both}
+use Rattle.sheet.specs.declared.kept.Sheet.{Sheet}
+use Rattle.sheet.specs.Limits.{Limits}
+use Rattle.value.specs.declared.parts.End.{End}
+use Rattle.value.specs.declared.parts.End.TheVariants.{Unknown, On, Last}
+use Rattle.meaning.specs.declared.parts.Duty.{Duty}
+use Rattle.meaning.specs.declared.parts.Opening.{Opening}
+use Rattle.meaning.specs.declared.parts.Span.{Span}
+use Rattle.meaning.specs.declared.parts.Stop.TheVariants.{Crowded}
+use Rattle.meaning.specs.Intervals.{Setting, statement_at}
+use Rattle.meaning.specs.Work.{Work, Outcome, stops, goes, unchanged, also, and_then, has_duty}
+use Rattle.meaning.specs.Effects.{most_duties, with_duty, if_room, put_by, put, add}
+use Rattle.meaning.specs.Rules.{visit, take_last, hand_on, visit_opened, visit_span}
+use Rattle.meaning.specs.Order.{Lives, Nested, Tidy, Later}
+use Rattle.meaning.proofs.Lists.{nth_in}
+use Rattle.meaning.proofs.Known.{statement_with_ok}
+use Rattle.meaning.proofs.Moves.{lives_more, Moves, moves_on, Any, moves-any, moves_then, moves-stay, add-moves, put-moves}
+use Rattle.meaning.proofs.Grown.{rule-moves}
+use Rattle.meaning.proofs.Kept.{OfWork, kept-visit}
+use Rattle.meaning.proofs.Later.{later_refl, later-kept}
+use Rattle.board.specs.Held.{sheet_of}
+
+-- a sheet keeps the limits
+pub limits_of : (s : Sheet) → Limits (sheet_of s)
+limits_of s = record { counts = s.counts; variables = s.names; expressions = s.operands; sizes = s.small; statements = s.order; run = s.runs; text = s.short }
+
+-- what moves to a work in order
+tidy_of : {S : Setting} {w u : Work} {c : Bool} → Moves S w Any (goes u c) → Tidy S u
+tidy_of (moves_on g l t p) = t
+
+-- a visit to a duty of the list keeps the work in order
+pub visit_tidy : (S : Setting) → Limits S.sheet → (k i : ℕ) (d : Duty) (w u : Work) (c : Bool) → Tidy S w → slice_get w.duties i ≡ Some d → goes u c ≡ visit S k d w → Tidy S u
+visit_tidy S L k i d w u c t e h =
+    let m : Moves S w Any (visit S k d w) = rule-moves k (length S.sheet.expressions) d.statement d w (statement_at S d.statement) d.number (statement_with_ok S L d.statement) t (t.duty_lives d (nth_in w.duties i d e)) in
+    tidy_of (subst (λ (z : Outcome). Moves S w Any z) (sym h) m)
+
+-- and leads to a later one
+pub visit_later : (S : Setting) (k : ℕ) (d : Duty) (w u : Work) (c : Bool) → goes u c ≡ visit S k d w → Later w u
+visit_later S k d w u c h = subst (λ (z : Outcome). OfWork (Later w) z) (sym h) (kept-visit S (Later w) (later-kept S w) k d w (later_refl w))
+
+-- a fact of an outcome's work, where something has changed before
+of_also : (P : Work → Type 0) (c : Bool) (o : Outcome) → OfWork P o → OfWork P (also c o)
+of_also P c (stops s) h = tt
+of_also P c (goes u b) h = h
+
+-- and of one thing after another
+of_next : (P : Work → Type 0) (o : Outcome) (f : Work → Outcome) → OfWork P o → ((u : Work) → P u → OfWork P (f u)) → OfWork P (and_then o f)
+of_next P (stops s) f h g = tt
+of_next P (goes u c) f h g = of_also P c (f u) (g u h)
+
+-- a visit to a span keeps what putting an end and adding a duty keep
+module _ (P : Work → Type 0) (puts : (p : ℕ) (e : End) (s : ℕ) (w : Work) → P w → OfWork P (put p e s w)) (adds : (d : Duty) (w : Work) → P w → OfWork P (add d w)) where
+  of-take : (c : End) (p s : ℕ) (w : Work) → P w → OfWork P (take_last c p s w)
+  of-take Unknown p s w h = h
+  of-take On p s w h = h
+  of-take Last p s w h = puts p Last s w h
+
+  of-hand : (c : End) (g : Opening) (w : Work) → P w → OfWork P (hand_on c g w)
+  of-hand Unknown g w h = h
+  of-hand On g w h = puts g.by On g.follower.span w h
+  of-hand Last g w h = adds g.follower w h
+
+  of-opened : (q : Option Opening) (s : ℕ) (w : Work) → P w → OfWork P (visit_opened q s w)
+  of-opened None s w h = h
+  of-opened (Some g) s w h = of_next P (take_last (w.ends g.follower.span) g.by s w) (λ u. hand_on (u.ends s) g u) (of-take (w.ends g.follower.span) g.by s w h) (λ u. of-hand (u.ends s) g u)
+
+-- a visit to a span leads to a later work
+pub span_later : (S : Setting) (t : Span) (w u : Work) (c : Bool) → goes u c ≡ visit_span t w → Later w u
+span_later S t w u c h = subst (λ (z : Outcome). OfWork (Later w) z) (sym h) (of-opened (Later w) (later-kept S w).puts (later-kept S w).adds t.opening t.serial w (later_refl w))
+
+-- to put an end opens no span
+put_same : (l : List Span) (p : ℕ) (c e : End) (s : ℕ) (w : Work) → w.spans ≡ l → OfWork (λ u. u.spans ≡ l) (put_by p c e s w)
+put_same l p Unknown Unknown s w h = h
+put_same l p Unknown On s w h = h
+put_same l p Unknown Last s w h = h
+put_same l p On Unknown s w h = h
+put_same l p On On s w h = h
+put_same l p On Last s w h = tt
+put_same l p Last Unknown s w h = h
+put_same l p Last On s w h = tt
+put_same l p Last Last s w h = h
+
+-- nor does a larger work with the same spans
+room_same : (l : List Span) (b : Bool) (u : Work) → u.spans ≡ l → OfWork (λ v. v.spans ≡ l) (if_room b u)
+room_same l b u h = cond_both b (goes u true) (stops Crowded) (OfWork (λ v. v.spans ≡ l)) (λ _. h) (λ _. tt)
+
+-- nor does to add a duty
+add_same : (l : List Span) (d : Duty) (w : Work) → w.spans ≡ l → OfWork (λ u. u.spans ≡ l) (add d w)
+add_same l d w h =
+    let room : Bool = ltb (length w.duties) most_duties in
+    cond_both (has_duty d w.duties) (unchanged w) (if_room room (with_duty d w)) (OfWork (λ u. u.spans ≡ l)) (λ _. h) (λ _. room_same l room (with_duty d w) h)
+
+-- so a visit to a span opens none
+pub span_same : (t : Span) (w u : Work) (c : Bool) → goes u c ≡ visit_span t w → u.spans ≡ w.spans
+span_same t w u c h =
+    let P : Work → Type 0 = λ v. v.spans ≡ w.spans in
+    subst (λ (z : Outcome). OfWork P z) (sym h) (of-opened P (λ p e s v. put_same w.spans p (v.ends s) e s v) (add_same w.spans) t.opening t.serial w refl)
+
+-- a visit to an opened span moves to a work in order
+module _ {S : Setting} where
+  take-moves : (c : End) (p s : ℕ) (w : Work) → Tidy S w → Lives w.spans s → Moves S w Any (take_last c p s w)
+  take-moves Unknown p s w t l = moves-stay w t
+  take-moves On p s w t l = moves-stay w t
+  take-moves Last p s w t l = moves-any (put-moves p Last s w t l)
+
+  hand-moves : (c : End) (g : Opening) (w : Work) → Tidy S w → Lives w.spans g.follower.span → Moves S w Any (hand_on c g w)
+  hand-moves Unknown g w t l = moves-stay w t
+  hand-moves On g w t l = moves-any (put-moves g.by On g.follower.span w t l)
+  hand-moves Last g w t l = add-moves g.follower w t l
+
+  opened-moves : (q : Option Opening) (s : ℕ) (w : Work) → Tidy S w → Lives w.spans s → Nested w.spans s q → Moves S w Any (visit_opened q s w)
+  opened-moves None s w t i l = moves-stay w t
+  opened-moves (Some g) s w t i l =
+      moves_then (λ u. hand_on (u.ends s) g u) (take-moves (w.ends g.follower.span) g.by s w t i) (λ u a b _. hand-moves (u.ends s) g u b (lives_more a l.1))
+
+-- a span of the list lives
+pub span_lives : (l : List Span) (i : ℕ) (t : Span) → slice_get l i ≡ Some t → Lives l t.serial
+span_lives l i t e = record { span = t; inside = nth_in l i t e; named = refl }
+
+-- a visit to it keeps the work in order
+pub span_tidy : (S : Setting) (i : ℕ) (t : Span) (w u : Work) (c : Bool) → Tidy S w → slice_get w.spans i ≡ Some t → goes u c ≡ visit_span t w → Tidy S u
+span_tidy S i t w u c y e h =
+    tidy_of (subst (λ (z : Outcome). Moves S w Any z) (sym h) (opened-moves t.opening t.serial w y (span_lives w.spans i t e) (y.nested t (nth_in w.spans i t e))))
