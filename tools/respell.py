@@ -32,6 +32,10 @@ OWN = {
     "statement-ok": "statement_with_ok",
     "name-ok": "named_ok",
     "fits-of": "fits_of",
+    "expression-line": "expression_line_tried",
+    "statement-line": "statement_line_tried",
+    "variable-line": "variable_line_tried",
+    "run-line": "run_line_tried",
     "in-range": "in_range_same",
     "is-ended": "is_ended_says",
     "all-ended": "all_ended_says",
@@ -51,9 +55,8 @@ MET = {
 }
 
 WORD = r"[\w'′\-·◌]"
-SIGNATURE = re.compile(r"^((?:(?:abbrev|unfoldable|pub)\s+)*)([^\s:(){},;∷]+)\s*:\s+(.*)$")
-TYPE = re.compile(r"^(?:(?:abbrev|unfoldable|pub)\s+)*(data|record)\s+(?:pub\s+)?([^\s:({]+)(.*)$")
-PART = re.compile(r"^\s+(?:pub\s+)?([^\s:(){},;∷]+)\s*:\s+(.*)$")
+SIGNATURE = re.compile(r"^\s*((?:(?:abbrev|unfoldable|pub)\s+)*)([^\s:(){},;∷]+)\s*:\s+(.*)$")
+TYPE = re.compile(r"^\s*(?:(?:abbrev|unfoldable|pub)\s+)*(data|record)\s+(?:pub\s+)?([^\s:({]+)(.*)$")
 
 
 def files(ends, below=("src", "specs", "proofs", "must-fail")):
@@ -77,37 +80,32 @@ def conclusion(text):
 
 
 def declared():
-    """Each name that specs/ and proofs/ declare, with its kind and what its type ends in."""
+    """Each name that specs/ and proofs/ declare, with its kind and what its type ends in. Names in modules and mutual blocks count too."""
     names = collections.OrderedDict()
     for path in files(".antt", ("specs", "proofs")):
-        inside = None
         with open(path, encoding="utf-8") as f:
             lines = f.read().split("\n")
+        inside, deep = None, 0
         for at, line in enumerate(lines):
-            if line.startswith("--"):
+            if line.lstrip().startswith("--") or not line.strip():
                 continue
+            depth = len(line) - len(line.lstrip())
+            if inside and depth <= deep:
+                inside = None
             kind = TYPE.match(line)
             if kind:
                 names.setdefault(kind.group(2), ("type", ""))
-                inside = kind.group(1)
+                inside, deep = kind.group(1), depth
                 continue
             whole = line
-            j = at + 1
-            while j < len(lines) and lines[j].startswith("    ") and not PART.match(lines[j]):
-                whole += " " + lines[j].strip()
-                j += 1
+            for more in lines[at + 1 :]:
+                if len(more) - len(more.lstrip()) < depth + 4 or not more.strip():
+                    break
+                whole += " " + more.strip()
             mark = SIGNATURE.match(whole)
-            if mark:
-                inside = None
-                if not re.match(r"(goal|given)\.", mark.group(3)):
-                    names.setdefault(mark.group(2), ("word", conclusion(mark.group(3))))
-                continue
-            part = PART.match(line)
-            if part and inside:
-                names.setdefault(part.group(1), ("part", ""))
-                continue
-            if line and not line[0].isspace():
-                inside = None
+            if mark and not re.match(r"(goal|given)\.", mark.group(3)):
+                kind = "part" if inside else "word"
+                names.setdefault(mark.group(2), (kind, "" if inside else conclusion(mark.group(3))))
     return names
 
 
@@ -127,7 +125,7 @@ def spelled(name, kind, end):
         return OWN[name]
     if kind == "type" or re.match(r"Type\b", end):
         return camel(name)
-    if kind == "part" and name[0].isupper():
+    if name[0].isupper() and (kind == "part" or len(name) == 1):
         return name
     new = snake(name)
     if kind == "word" and "-" in name:

@@ -1,7 +1,7 @@
 // Visits to the duties of a state.
 ghost use Rattle.std.specs.Prelude.{◌≡◌, ◌||◌, length, Some as some, OnOk, slice_index_or};
 ghost use Rattle.std.specs.List.{slice_get};
-ghost use Rattle.sheet.specs.declared.parts.Statement.TheVariants.{True as true-so};
+ghost use Rattle.sheet.specs.declared.parts.Statement.TheVariants.{True as true_so};
 ghost use Rattle.meaning.specs.Intervals.{under, statement_at};
 ghost use Rattle.meaning.specs.Order.{Tidy, Later};
 ghost use Rattle.meaning.specs.Passes.{pass_fuel, visit_duties};
@@ -25,7 +25,7 @@ pub(crate) fn joined(a: bool, b: bool) -> bool
 
 // Whether a statement is an `always`.
 fn is_lasting(sheet: &Sheet, statement: u16) -> bool
-    ensures { result ≡ lasting (slice_index_or sheet.now.tables.statements.items statement true-so) }
+    ensures { result ≡ lasting (slice_index_or sheet.now.tables.statements.items statement true_so) }
 {
     let place = statement as usize;
     if place >= sheet.tables.statements.len() {
