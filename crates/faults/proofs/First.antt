@@ -12,7 +12,7 @@ use Rattle.faults.specs.Shapes.{words_in, form_of, Line, line_in}
 use Rattle.faults.specs.Fits.{faulty, fits, FirstFault}
 use Rattle.faults.proofs.Tries.{tried}
 use Rattle.faults.proofs.Ranks.{behind, every, first_told}
-use Rattle.faults.proofs.Stages.{Found, variable-line, expression-line, statement-line, run-line}
+use Rattle.faults.proofs.Stages.{Found, variable_line_tried, expression_line_tried, statement_line_tried, run_line_tried}
 
 -- a key that may come, ahead of what its line says
 admitted_step : (p q : Bool) (k : Keyword) (f : Keyword → Result Item Fault) (s : Result Item Fault) → (q ≡ false → f k ≡ s)
@@ -31,18 +31,18 @@ Keyed d n k ws r = (v : Item) × (r ≡ tried (faulty d (shaped n k ws)) (Fault.
 
 module _ (d : Said) (n : ℕ) (ws : List (List ℕ)) where
   -- what an admitted line says, or its fault
-  by-item : (k : Keyword) (v : Item) → (full d k ≡ false → item_of d k ws ≡ tried (faulty d (shaped n k ws)) behind v) → Keyed d n k ws (then (admitted d k) (λ j. item_of d j ws))
-  by-item k v h = (v, admitted_step (allowed d k) (full d k) k (λ j. item_of d j ws) (tried (faulty d (shaped n k ws)) behind v) h)
+  by_item : (k : Keyword) (v : Item) → (full d k ≡ false → item_of d k ws ≡ tried (faulty d (shaped n k ws)) behind v) → Keyed d n k ws (then (admitted d k) (λ j. item_of d j ws))
+  by_item k v h = (v, admitted_step (allowed d k) (full d k) k (λ j. item_of d j ws) (tried (faulty d (shaped n k ws)) behind v) h)
 
-  by-found : (k : Keyword) → Found d (shaped n k ws) (item_of d k ws) → Keyed d n k ws (then (admitted d k) (λ j. item_of d j ws))
-  by-found k f = by-item k f.0 (λ _. f.1)
+  by_found : (k : Keyword) → Found d (shaped n k ws) (item_of d k ws) → Keyed d n k ws (then (admitted d k) (λ j. item_of d j ws))
+  by_found k f = by_item k f.0 (λ _. f.1)
 
   keyed : (k : Keyword) → Keyed d n k ws (then (admitted d k) (λ j. item_of d j ws))
-  keyed Keyword.Sheet = by-item Keyword.Sheet (Item.Run 0) (λ e. absurd (true≢false e))
-  keyed Keyword.Var = by-found Keyword.Var (variable-line d n Keyword.Var ws)
-  keyed Keyword.Expr = by-found Keyword.Expr (expression-line d n Keyword.Expr ws)
-  keyed Keyword.Stmt = by-found Keyword.Stmt (statement-line d n Keyword.Stmt ws)
-  keyed Keyword.Run = by-found Keyword.Run (run-line d n Keyword.Run ws)
+  keyed Keyword.Sheet = by_item Keyword.Sheet (Item.Run 0) (λ e. absurd (true≢false e))
+  keyed Keyword.Var = by_found Keyword.Var (variable_line_tried d n Keyword.Var ws)
+  keyed Keyword.Expr = by_found Keyword.Expr (expression_line_tried d n Keyword.Expr ws)
+  keyed Keyword.Stmt = by_found Keyword.Stmt (statement_line_tried d n Keyword.Stmt ws)
+  keyed Keyword.Run = by_found Keyword.Run (run_line_tried d n Keyword.Run ws)
   keyed Keyword.Unknown = (Item.Run 0, refl)
 
   -- a line that may lack its `=`

@@ -32,9 +32,9 @@ rising_in r (f ∷ fs) g h (inr i) = omega (arith, rising_in (rank f) fs g h.1 i
 
 module _ {A : Type 0} (t : Fault → Bool) (v : A) where
   -- the fault that is told passes the test, and none of a lower rank does
-  tried-err : (r : ℕ) (fs : List Fault) (f : Fault) → Rising r fs → tried t fs v ≡ Err f → (t f ≡ true) × ((g : Fault) → In g fs → rank g < rank f → t g ≡ false)
-  tried-err r [] f h e = absurd (let z : ◌≡◌ {A = ℕ} 0 1 = cc in omega arith)
-  tried-err r (x ∷ xs) f h e = go (t x) refl e (tried-err (rank x) xs f h.1)
+  tried_err : (r : ℕ) (fs : List Fault) (f : Fault) → Rising r fs → tried t fs v ≡ Err f → (t f ≡ true) × ((g : Fault) → In g fs → rank g < rank f → t g ≡ false)
+  tried_err r [] f h e = absurd (let z : ◌≡◌ {A = ℕ} 0 1 = cc in omega arith)
+  tried_err r (x ∷ xs) f h e = go (t x) refl e (tried_err (rank x) xs f h.1)
     where
       go : (b : Bool) → t x ≡ b → cond b (Err x) (tried t xs v) ≡ Err f
           → (tried t xs v ≡ Err f → (t f ≡ true) × ((g : Fault) → In g xs → rank g < rank f → t g ≡ false))
@@ -47,9 +47,9 @@ module _ {A : Type 0} (t : Fault → Bool) (v : A) where
       go false p e rest = ((rest e).0, λ g i less. ⊎_elim (λ (q : g ≡ x). ap t q ∙ p) (λ j. (rest e).1 g j less) i)
 
   -- where none is told, none passes
-  tried-ok : (fs : List Fault) (x : A) → tried t fs v ≡ Ok x → (g : Fault) → In g fs → t g ≡ false
-  tried-ok [] x e g i = absurd i
-  tried-ok (f ∷ fs) x e g i = go (t f) refl e (tried-ok fs x)
+  tried_ok : (fs : List Fault) (x : A) → tried t fs v ≡ Ok x → (g : Fault) → In g fs → t g ≡ false
+  tried_ok [] x e g i = absurd i
+  tried_ok (f ∷ fs) x e g i = go (t f) refl e (tried_ok fs x)
     where
       go : (b : Bool) → t f ≡ b → cond b (Err f) (tried t fs v) ≡ Ok x → (tried t fs v ≡ Ok x → (g : Fault) → In g fs → t g ≡ false) → t g ≡ false
       go true p e rest = absurd (let z : ◌≡◌ {A = ℕ} 0 1 = cc in omega arith)
@@ -126,7 +126,7 @@ pub first_told : (d : Said) (x : Line) (v : Item) (r : Result Item Fault) → r 
     × ((y : Item) → r ≡ Ok y → (g : Fault) → faulty d x g ≡ false)
 first_told d x v r e = (
   λ f q.
-      let p = tried-err (faulty d x) v 0 every f rising (sym e ∙ q) in
+      let p = tried_err (faulty d x) v 0 every f rising (sym e ∙ q) in
       (p.0, λ g b. ⊎_elim (λ m. p.1 g m.1 (omega arith)) (λ never. never d x) (known g)),
-  λ y q g. ⊎_elim (λ m. tried-ok (faulty d x) v every y (sym e ∙ q) g m.1) (λ never. never d x) (known g),
+  λ y q g. ⊎_elim (λ m. tried_ok (faulty d x) v every y (sym e ∙ q) g m.1) (λ never. never d x) (known g),
 )

@@ -95,9 +95,9 @@ module _ (d : Said) (n : ℕ) (k : Keyword) where
       go s m = grind (arith, nat_tests)
 
   -- an operation that is known or not
-  expression-found : (ws : List (List ℕ)) (o : Option Expression) → Found d (line ws (expression_if o)) (expression_by d o (nth [] ws 2) (nth [] ws 3) (nth [] ws 4))
-  expression-found ws None = (Item.Run 0, refl)
-  expression-found ws (Some e) =
+  expression_found : (ws : List (List ℕ)) (o : Option Expression) → Found d (line ws (expression_if o)) (expression_by d o (nth [] ws 2) (nth [] ws 3) (nth [] ws 4))
+  expression_found ws None = (Item.Run 0, refl)
+  expression_found ws (Some e) =
       let x = line ws (expression e) in
       let o = operands_in d (expression_roles e) x in
       let f = expression_with e o in (
@@ -106,9 +106,9 @@ module _ (d : Said) (n : ℕ) (k : Keyword) where
             ∙ steps (faulty d x) nine (Fault.Size ∷ []) o _ (λ o. sized d (expression_with e o)) (sized-step f),
       )
 
-  statement-found : (ws : List (List ℕ)) (o : Option Statement) → Found d (line ws (statement_if o)) (statement_by d o (nth [] ws 2) (nth [] ws 3) (nth [] ws 4))
-  statement-found ws None = (Item.Run 0, refl)
-  statement-found ws (Some s) =
+  statement_found : (ws : List (List ℕ)) (o : Option Statement) → Found d (line ws (statement_if o)) (statement_by d o (nth [] ws 2) (nth [] ws 3) (nth [] ws 4))
+  statement_found ws None = (Item.Run 0, refl)
+  statement_found ws (Some s) =
       let x = line ws (statement s) in
       let o = operands_in d (statement_roles s) x in (
         Item.Statement (statement_with s o),
@@ -117,28 +117,28 @@ module _ (d : Said) (n : ℕ) (k : Keyword) where
       )
 
   -- one form or the other
-  either-found : (ws : List (List ℕ)) (b : Bool) (x y : Form) (r s : Result Item Fault) → Found d (line ws x) r → Found d (line ws y) s → Found d (line ws (cond b x y)) (cond b r s)
-  either-found ws true x y r s f g = f
-  either-found ws false x y r s f g = g
+  either_found : (ws : List (List ℕ)) (b : Bool) (x y : Form) (r s : Result Item Fault) → Found d (line ws x) r → Found d (line ws y) s → Found d (line ws (cond b x y)) (cond b r s)
+  either_found ws true x y r s f g = f
+  either_found ws false x y r s f g = g
 
   -- `num C`
-  constant-found : (op a : List ℕ) → Found d (line (op ∷ a ∷ []) num) (reading.constant d a)
-  constant-found op a = (_, step _ _ _ (some_step (number_of 1000000 a) _ (Fault.Number 2)) (sized-step (Num (signed_in a))))
+  constant_found : (op a : List ℕ) → Found d (line (op ∷ a ∷ []) num) (reading.constant d a)
+  constant_found op a = (_, step _ _ _ (some_step (number_of 1000000 a) _ (Fault.Number 2)) (sized-step (Num (signed_in a))))
 
-  pub expression-line : (ws : List (List ℕ)) → Found d (line ws (expression_form ws)) (expression_of d ws)
-  expression-line [] = (Item.Run 0, refl)
-  expression-line (op ∷ []) = expression-found (op ∷ []) (bare_expression op)
-  expression-line (op ∷ a ∷ []) = either-found (op ∷ a ∷ []) (bytes_eq op (codes "num")) _ _ _ _ (constant-found op a) (expression-found (op ∷ a ∷ []) (single_expression op))
-  expression-line (op ∷ a ∷ b ∷ []) = expression-found (op ∷ a ∷ b ∷ []) (double_expression op)
-  expression-line (op ∷ a ∷ b ∷ c ∷ ws) = (Item.Run 0, refl)
+  pub expression_line_tried : (ws : List (List ℕ)) → Found d (line ws (expression_form ws)) (expression_of d ws)
+  expression_line_tried [] = (Item.Run 0, refl)
+  expression_line_tried (op ∷ []) = expression_found (op ∷ []) (bare_expression op)
+  expression_line_tried (op ∷ a ∷ []) = either_found (op ∷ a ∷ []) (bytes_eq op (codes "num")) _ _ _ _ (constant_found op a) (expression_found (op ∷ a ∷ []) (single_expression op))
+  expression_line_tried (op ∷ a ∷ b ∷ []) = expression_found (op ∷ a ∷ b ∷ []) (double_expression op)
+  expression_line_tried (op ∷ a ∷ b ∷ c ∷ ws) = (Item.Run 0, refl)
 
-  pub statement-line : (ws : List (List ℕ)) → Found d (line ws (statement_form ws)) (statement_of d ws)
-  statement-line [] = (Item.Run 0, refl)
-  statement-line (op ∷ []) = statement-found (op ∷ []) (bare_statement op)
-  statement-line (op ∷ a ∷ []) = statement-found (op ∷ a ∷ []) (single_statement op)
-  statement-line (op ∷ a ∷ b ∷ []) = statement-found (op ∷ a ∷ b ∷ []) (double_statement op)
-  statement-line (op ∷ a ∷ b ∷ c ∷ []) = statement-found (op ∷ a ∷ b ∷ c ∷ []) (triple_statement op)
-  statement-line (op ∷ a ∷ b ∷ c ∷ e ∷ ws) = (Item.Run 0, refl)
+  pub statement_line_tried : (ws : List (List ℕ)) → Found d (line ws (statement_form ws)) (statement_of d ws)
+  statement_line_tried [] = (Item.Run 0, refl)
+  statement_line_tried (op ∷ []) = statement_found (op ∷ []) (bare_statement op)
+  statement_line_tried (op ∷ a ∷ []) = statement_found (op ∷ a ∷ []) (single_statement op)
+  statement_line_tried (op ∷ a ∷ b ∷ []) = statement_found (op ∷ a ∷ b ∷ []) (double_statement op)
+  statement_line_tried (op ∷ a ∷ b ∷ c ∷ []) = statement_found (op ∷ a ∷ b ∷ c ∷ []) (triple_statement op)
+  statement_line_tried (op ∷ a ∷ b ∷ c ∷ e ∷ ws) = (Item.Run 0, refl)
 
   -- a name that is not declared yet
   fresh_step : (w : List ℕ) → reading.fresh d w ≡ cond (misnamed d w fresh) (Err (Fault.Name 1)) (Ok (named w))
@@ -150,20 +150,20 @@ module _ (d : Said) (n : ℕ) (k : Keyword) where
       go true = refl
       go false = refl
 
-  pub variable-line : (ws : List (List ℕ)) → Found d (line ws (variable_form ws)) (variable_of d ws)
-  variable-line [] = (Item.Run 0, refl)
-  variable-line (n ∷ []) = (Item.Run 0, refl)
-  variable-line (n ∷ a ∷ []) = (Item.Run 0, refl)
-  variable-line (n ∷ a ∷ b ∷ []) = (
+  pub variable_line_tried : (ws : List (List ℕ)) → Found d (line ws (variable_form ws)) (variable_of d ws)
+  variable_line_tried [] = (Item.Run 0, refl)
+  variable_line_tried (n ∷ []) = (Item.Run 0, refl)
+  variable_line_tried (n ∷ a ∷ []) = (Item.Run 0, refl)
+  variable_line_tried (n ∷ a ∷ b ∷ []) = (
     Item.Variable (record { name = named n; low = signed_in a; high = signed_in b }),
     step _ _ _ (some_step (number_of 1000000 a) (pos 0) (Fault.Number 2))
         (step _ _ _ (some_step (number_of 1000000 b) (pos 0) (Fault.Number 3))
         (step _ _ _ (test_step (le_z (signed_in a) (signed_in b)) (signed_in b) (Fault.Number 3)) (step _ _ _ (fresh_step n) refl))
         ∙ twice (not (is_some (number_of 1000000 b))) (not (le_z (signed_in a) (signed_in b))) (Fault.Number 3) _),
   )
-  variable-line (n ∷ a ∷ b ∷ c ∷ ws) = (Item.Run 0, refl)
+  variable_line_tried (n ∷ a ∷ b ∷ c ∷ ws) = (Item.Run 0, refl)
 
-  pub run-line : (ws : List (List ℕ)) → Found d (line ws (run_form ws)) (run_of d ws)
-  run-line [] = (Item.Run 0, refl)
-  run-line (w ∷ []) = (Item.Run (natural_in w), step _ _ _ (numeral-step 1 Role.Statement [] w) (step _ _ _ (there-step d 1 Role.Statement w) refl))
-  run-line (w ∷ x ∷ ws) = (Item.Run 0, refl)
+  pub run_line_tried : (ws : List (List ℕ)) → Found d (line ws (run_form ws)) (run_of d ws)
+  run_line_tried [] = (Item.Run 0, refl)
+  run_line_tried (w ∷ []) = (Item.Run (natural_in w), step _ _ _ (numeral-step 1 Role.Statement [] w) (step _ _ _ (there-step d 1 Role.Statement w) refl))
+  run_line_tried (w ∷ x ∷ ws) = (Item.Run 0, refl)

@@ -26,8 +26,8 @@ take-map (v ∷ vs) (suc k) = ap (λ l. variable_line v ∷ l) (take-map vs k)
 
 -- the line of variable k, and the bytes before it
 module _ (c : Content) (k : ℕ) (h : k < length c.variables) where
-  line-is : get_or (codes "sheet=2" ∷ body_lines c) (k + 1) [] ≡ variable_line (variable_at c.variables k)
-  line-is =
+  line_is : get_or (codes "sheet=2" ∷ body_lines c) (k + 1) [] ≡ variable_line (variable_at c.variables k)
+  line_is =
       let n : k < length (map variable_line c.variables) = omega (arith, length-map c.variables variable_line) in
       ap (λ j. get_or (codes "sheet=2" ∷ body_lines c) j []) (add-one k) ∙ get_or_append_left (map variable_line c.variables) _ [] k n ∙ map_at c.variables k h
 
@@ -45,7 +45,7 @@ name_first vs k ok h =
 pub named : (s : Bor (List ℕ)) (k : ℕ) (c : Content) (r : Option (Bor (List ℕ))) → verdict s.now ≡ Ok c → k < length c.variables → NameAt s (k + 1) r → NameOf s k r
 named s k c None q h n =
     let l = accepted_lines s.now c q in
-    let line = ap (λ ls. get_or ls (k + 1) []) l.lines ∙ line-is c k h in
+    let line = ap (λ ls. get_or ls (k + 1) []) l.lines ∙ line_is c k h in
     let many : k + 1 < length (lines_in s.now) = omega (arith, ap length l.lines, long c) in
     absurd (omega (arith, n l.head.some many, ap length line))
   where
@@ -53,7 +53,7 @@ named s k c None q h n =
     long b = simp length-append (omega (arith, length-map b.variables variable_line))
 named s k c (Some x) q h n =
     let l = accepted_lines s.now c q in
-    let line = ap (λ ls. get_or ls (k + 1) []) l.lines ∙ line-is c k h in
+    let line = ap (λ ls. get_or ls (k + 1) []) l.lines ∙ line_is c k h in
     let place = ap (λ ls. start_of ls (k + 1) + 4) l.lines ∙ start_is c k h in
     let name = ap (λ w. before 32 (drop 4 w)) line ∙ name_first c.variables k (sound s.now c q).1.variables h in
     (c, q, h, record { bytes = n.bytes ∙ name; block = n.block; offset = n.offset ∙ ap (λ m. s.ref_ptr.1 + m) place })

@@ -1,7 +1,7 @@
 -- A turn of the loop over the lines. Assumes nothing.
 use Rattle.std.proofs.Common.{◌≡◌, ℕ, ◌+◌, List, [], ◌∷◌, length, Ok, sym, ap, ◌∙◌, subst, arith}
 use Rattle.sheet.specs.Sizes.{size}
-use Rattle.sheet.proofs.Tabled.{tabled-length}
+use Rattle.sheet.proofs.Tabled.{tabled_length}
 use Rattle.drafts.specs.declared.items.Item.{Item}
 use Rattle.drafts.specs.Said.{Said, added, Room}
 use Rattle.lines.specs.Reading.{line_of}
@@ -11,7 +11,7 @@ use Rattle.verdict.proofs.Chains.{Good, good_more}
 
 fit_room : (d : Said) (x : Item) → Good d → Fit d x → Room d x
 fit_room d (Item.Variable v) g f = f.0.3
-fit_room d (Item.Expression e n) g f = (f.0.3, omega (arith, f.0.3, ap length g.sized, tabled-length (size d.variables) d.expressions []))
+fit_room d (Item.Expression e n) g f = (f.0.3, omega (arith, f.0.3, ap length g.sized, tabled_length (size d.variables) d.expressions []))
 fit_room d (Item.Statement s) g f = f.0.2
 fit_room d (Item.Run n) g f = tt
 

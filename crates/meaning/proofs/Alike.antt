@@ -7,12 +7,12 @@ use Rattle.meaning.specs.Runs.{Step, recorded, Steps, Open, start, onward, Finis
 use Rattle.meaning.specs.Laws.{EqualRunsAgree}
 use Rattle.meaning.proofs.Lists.{longer}
 use Rattle.meaning.proofs.Tests.{on_last}
-use Rattle.meaning.proofs.One.{steps-one}
+use Rattle.meaning.proofs.One.{steps_one}
 use Rattle.meaning.proofs.Steady.{state_in, work_after, whole_end}
 
 -- the next state of two records that are equal so far
 same_step : {S : Setting} {q r : List (List ℤ)} {w v : Work} {s t : Step} → q ≡ r → w ≡ v → Steps S (length q) w s → Steps S (length r) v t → s ≡ t
-same_step {S} {s = s} e d a b = steps-one b (subst₂ (λ k z. Steps S k z s) (ap length e) d a)
+same_step {S} {s = s} e d a b = steps_one b (subst₂ (λ k z. Steps S k z s) (ap length e) d a)
 
 same_more : {q r : List (List ℤ)} {x y : List ℤ} → q ≡ r → x ≡ y → (q ++ (x ∷ [])) ≡ (r ++ (y ∷ []))
 same_more {q} {r} {x} {y} e p = ap (λ z. z ++ (x ∷ [])) e ∙ ap (λ z. r ++ (z ∷ [])) p

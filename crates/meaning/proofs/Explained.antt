@@ -51,24 +51,24 @@ pub data Good (S : Setting) (σ : ℕ → ℕ → ℤ) (m k : ℕ) : Outcome →
   good : {w : Work} {c : Bool} (n : ℕ) (E : ℕ → ℕ) → Explains S σ m k n E w → Good S σ m k (goes w c)
 
 module _ {S : Setting} {σ : ℕ → ℕ → ℤ} {m k n : ℕ} {E : ℕ → ℕ} where
-  keep-also : {o : Outcome} (c : Bool) → Keeps S σ m k n E o → Keeps S σ m k n E (also c o)
-  keep-also c kept_full = kept_full
-  keep-also c (kept X) = kept X
+  keep_also : {o : Outcome} (c : Bool) → Keeps S σ m k n E o → Keeps S σ m k n E (also c o)
+  keep_also c kept_full = kept_full
+  keep_also c (kept X) = kept X
 
-  pub keep-room : (b : Bool) (w : Work) → Explains S σ m k n E w → Keeps S σ m k n E (if_room b w)
-  keep-room true w X = kept X
-  keep-room false w X = kept_full
+  pub keep_room : (b : Bool) (w : Work) → Explains S σ m k n E w → Keeps S σ m k n E (if_room b w)
+  keep_room true w X = kept X
+  keep_room false w X = kept_full
 
-  pub keep-then : {o : Outcome} (f : Work → Outcome) → Keeps S σ m k n E o → ((u : Work) → Explains S σ m k n E u → Keeps S σ m k n E (f u)) → Keeps S σ m k n E (and_then o f)
-  keep-then f kept_full g = kept_full
-  keep-then f (kept {w = w} {c = c} X) g = keep-also c (g w X)
+  pub keep_then : {o : Outcome} (f : Work → Outcome) → Keeps S σ m k n E o → ((u : Work) → Explains S σ m k n E u → Keeps S σ m k n E (f u)) → Keeps S σ m k n E (and_then o f)
+  keep_then f kept_full g = kept_full
+  keep_then f (kept {w = w} {c = c} X) g = keep_also c (g w X)
 
-  pub keep-good : {o : Outcome} → Keeps S σ m k n E o → Good S σ m k o
-  keep-good kept_full = good_full
-  keep-good (kept X) = good n E X
+  pub keep_good : {o : Outcome} → Keeps S σ m k n E o → Good S σ m k o
+  keep_good kept_full = good_full
+  keep_good (kept X) = good n E X
 
-  keep-value : (x : ℕ) (v : ℤ) (w : Work) → σ k x ≡ v → Explains S σ m k n E w → Explains S σ m k n E (with_value x v w)
-  keep-value x v w h X = record {
+  keep_value : (x : ℕ) (v : ℤ) (w : Work) → σ k x ≡ v → Explains S σ m k n E w → Explains S σ m k n E (with_value x v w)
+  keep_value x v w h X = record {
     next_is = X.next_is;
     first = X.first;
     whole = X.whole;
@@ -81,19 +81,19 @@ module _ {S : Setting} {σ : ℕ → ℕ → ℤ} {m k n : ℕ} {E : ℕ → ℕ
     later = X.later;
   }
 
-  keep-give-by : (p : ℕ) (q : Option ℤ) (x : ℕ) (v : ℤ) (w : Work) → Agrees q (σ k x) → σ k x ≡ v → Explains S σ m k n E w → Keeps S σ m k n E (give_by S p q x v w)
-  keep-give-by p None x v w q h X =
+  keep_give_by : (p : ℕ) (q : Option ℤ) (x : ℕ) (v : ℤ) (w : Work) → Agrees q (σ k x) → σ k x ≡ v → Explains S σ m k n E w → Keeps S σ m k n E (give_by S p q x v w)
+  keep_give_by p None x v w q h X =
       cond_both (fits S x v) (changed (with_value x v w)) (stops (Contradiction p)) (Keeps S σ m k n E)
-      (λ e. kept (keep-value x v w h X)) (λ e. absurd (both_ways (fits S x v) e (subst (λ (z : ℤ). fits S x z ≡ true) h (X.ranged x))))
-  keep-give-by p (Some u) x v w q h X =
+      (λ e. kept (keep_value x v w h X)) (λ e. absurd (both_ways (fits S x v) e (subst (λ (z : ℤ). fits S x z ≡ true) h (X.ranged x))))
+  keep_give_by p (Some u) x v w q h X =
       cond_both (same u v) (unchanged w) (stops (Contradiction p)) (Keeps S σ m k n E)
       (λ e. kept X) (λ e. absurd (same_false u v e (q ∙ h)))
 
-  pub keep-give : (p x : ℕ) (v : ℤ) (w : Work) → σ k x ≡ v → Explains S σ m k n E w → Keeps S σ m k n E (give S p x v w)
-  keep-give p x v w h X = keep-give-by p (w.known x) x v w (X.values x) h X
+  pub keep_give : (p x : ℕ) (v : ℤ) (w : Work) → σ k x ≡ v → Explains S σ m k n E w → Keeps S σ m k n E (give S p x v w)
+  keep_give p x v w h X = keep_give_by p (w.known x) x v w (X.values x) h X
 
-  keep-end : (e : End) (s : ℕ) (w : Work) → EndSays k (E s) e → Explains S σ m k n E w → Explains S σ m k n E (with_end e s w)
-  keep-end e s w h X = record {
+  keep_end : (e : End) (s : ℕ) (w : Work) → EndSays k (E s) e → Explains S σ m k n E w → Explains S σ m k n E (with_end e s w)
+  keep_end e s w h X = record {
     next_is = X.next_is;
     first = X.first;
     whole = X.whole;
@@ -106,22 +106,22 @@ module _ {S : Setting} {σ : ℕ → ℕ → ℤ} {m k n : ℕ} {E : ℕ → ℕ
     later = X.later;
   }
 
-  keep-put-by : (p : ℕ) (c e : End) (s : ℕ) (w : Work) → EndSays k (E s) c → EndSays k (E s) e → Explains S σ m k n E w → Keeps S σ m k n E (put_by p c e s w)
-  keep-put-by p Unknown Unknown s w c h X = kept X
-  keep-put-by p Unknown On s w c h X = kept (keep-end On s w h X)
-  keep-put-by p Unknown Last s w c h X = kept (keep-end Last s w h X)
-  keep-put-by p On Unknown s w c h X = kept X
-  keep-put-by p On On s w c h X = kept X
-  keep-put-by p On Last s w c h X = absurd (omega arith)
-  keep-put-by p Last Unknown s w c h X = kept X
-  keep-put-by p Last On s w c h X = absurd (omega arith)
-  keep-put-by p Last Last s w c h X = kept X
+  keep_put_by : (p : ℕ) (c e : End) (s : ℕ) (w : Work) → EndSays k (E s) c → EndSays k (E s) e → Explains S σ m k n E w → Keeps S σ m k n E (put_by p c e s w)
+  keep_put_by p Unknown Unknown s w c h X = kept X
+  keep_put_by p Unknown On s w c h X = kept (keep_end On s w h X)
+  keep_put_by p Unknown Last s w c h X = kept (keep_end Last s w h X)
+  keep_put_by p On Unknown s w c h X = kept X
+  keep_put_by p On On s w c h X = kept X
+  keep_put_by p On Last s w c h X = absurd (omega arith)
+  keep_put_by p Last Unknown s w c h X = kept X
+  keep_put_by p Last On s w c h X = absurd (omega arith)
+  keep_put_by p Last Last s w c h X = kept X
 
-  pub keep-put : (p : ℕ) (e : End) (s : ℕ) (w : Work) → EndSays k (E s) e → Explains S σ m k n E w → Keeps S σ m k n E (put p e s w)
-  keep-put p e s w h X = keep-put-by p (w.ends s) e s w (X.ends s) h X
+  pub keep_put : (p : ℕ) (e : End) (s : ℕ) (w : Work) → EndSays k (E s) e → Explains S σ m k n E w → Keeps S σ m k n E (put p e s w)
+  keep_put p e s w h X = keep_put_by p (w.ends s) e s w (X.ends s) h X
 
-  keep-duty : (d : Duty) (w : Work) → DutyOk S σ k n E d → Explains S σ m k n E w → Explains S σ m k n E (with_duty d w)
-  keep-duty d w h X = record {
+  keep_duty : (d : Duty) (w : Work) → DutyOk S σ k n E d → Explains S σ m k n E w → Explains S σ m k n E (with_duty d w)
+  keep_duty d w h X = record {
     next_is = X.next_is;
     first = X.first;
     whole = X.whole;
@@ -134,13 +134,13 @@ module _ {S : Setting} {σ : ℕ → ℕ → ℤ} {m k n : ℕ} {E : ℕ → ℕ
     later = X.later;
   }
 
-  pub keep-add : (d : Duty) (w : Work) → DutyOk S σ k n E d → Explains S σ m k n E w → Keeps S σ m k n E (add d w)
-  keep-add d w h X =
+  pub keep_add : (d : Duty) (w : Work) → DutyOk S σ k n E d → Explains S σ m k n E w → Keeps S σ m k n E (add d w)
+  keep_add d w h X =
       cond_both (has_duty d w.duties) (unchanged w) (if_room (ltb (length w.duties) most_duties) (with_duty d w)) (Keeps S σ m k n E)
-      (λ e. kept X) (λ e. keep-room (ltb (length w.duties) most_duties) (with_duty d w) (keep-duty d w h X))
+      (λ e. kept X) (λ e. keep_room (ltb (length w.duties) most_duties) (with_duty d w) (keep_duty d w h X))
 
-  keep-later : (d : Duty) (w : Work) → DutyOk S σ (suc k) n E d → Explains S σ m k n E w → Explains S σ m k n E (with_later d w)
-  keep-later d w h X = record {
+  keep_later : (d : Duty) (w : Work) → DutyOk S σ (suc k) n E d → Explains S σ m k n E w → Explains S σ m k n E (with_later d w)
+  keep_later d w h X = record {
     next_is = X.next_is;
     first = X.first;
     whole = X.whole;
@@ -153,7 +153,7 @@ module _ {S : Setting} {σ : ℕ → ℕ → ℤ} {m k n : ℕ} {E : ℕ → ℕ
     later = all_snoc (DutyOk S σ (suc k) n E) d w.later X.later h;
   }
 
-  pub keep-carry : (d : Duty) (w : Work) → DutyOk S σ (suc k) n E d → Explains S σ m k n E w → Keeps S σ m k n E (carry d w)
-  keep-carry d w h X =
+  pub keep_carry : (d : Duty) (w : Work) → DutyOk S σ (suc k) n E d → Explains S σ m k n E w → Keeps S σ m k n E (carry d w)
+  keep_carry d w h X =
       cond_both (has_duty d w.later) (unchanged w) (if_room (ltb (length w.later) most_duties) (with_later d w)) (Keeps S σ m k n E)
-      (λ e. kept X) (λ e. keep-room (ltb (length w.later) most_duties) (with_later d w) (keep-later d w h X))
+      (λ e. kept X) (λ e. keep_room (ltb (length w.later) most_duties) (with_later d w) (keep_later d w h X))

@@ -16,14 +16,14 @@ use Rattle.meaning.proofs.Owed.{Owed, Due}
 use Rattle.meaning.proofs.Known.{EndSays}
 use Rattle.meaning.proofs.Rest.{SpanRest}
 use Rattle.meaning.proofs.Moves.{Grows}
-use Rattle.meaning.proofs.Grown.{Resting, settles-rest}
+use Rattle.meaning.proofs.Grown.{Resting, settles_rest}
 use Rattle.meaning.proofs.Begun.{Rows, Begins, at_first, one_on, Ends, Stays, going_in, stale, in_going, lives_going}
 use Rattle.meaning.proofs.Exact.{EndOk, Fulfils, reaches, follows, exact}
 
 module _ {S : Setting} where
   -- the next state starts in order
-  pub next-tidy : (k : ℕ) (w u : Work) → Resting S k w u → Tidy S (next_work u)
-  next-tidy k w u R = record {
+  pub next_tidy : (k : ℕ) (w u : Work) → Resting S k w u → Tidy S (next_work u)
+  next_tidy k w u R = record {
     fitted = λ x. tt;
     duty_lives = λ d q. lives_going u.ends u.spans d.span (R.tidy.later_lives d q).0 (R.tidy.later_lives d q).1;
     later_lives = λ d q. elim q [ ];
@@ -44,40 +44,40 @@ module _ {S : Setting} where
           (by h.was.serial h.was.opening h.is_on (R.rest.of_span h.was h.was_in) (R.tidy.nested h.was h.was_in))
 
   -- so does the first
-  pub first-tidy : (p : ℕ) → Tidy S (first_work p)
-  first-tidy p = record {
+  pub first_tidy : (p : ℕ) → Tidy S (first_work p)
+  first_tidy p = record {
     fitted = λ x. tt;
-    duty_lives = one-duty;
+    duty_lives = one_duty;
     later_lives = λ d q. elim q [ ];
-    nested = one-nested;
-    young = one-young;
-    bodies = one-body;
+    nested = one_nested;
+    young = one_young;
+    bodies = one_body;
   }
     where
-      one-duty : (d : Duty) → d ∈ (plain p 0 ∷ []) → Lives (whole_span ∷ []) d.span
-      one-duty d (here e) = record { span = whole_span; inside = here refl; named = ap (λ z. z.span) (sym e) }
-      one-duty d (there q) = elim q [ ]
+      one_duty : (d : Duty) → d ∈ (plain p 0 ∷ []) → Lives (whole_span ∷ []) d.span
+      one_duty d (here e) = record { span = whole_span; inside = here refl; named = ap (λ z. z.span) (sym e) }
+      one_duty d (there q) = elim q [ ]
 
-      one-nested : (t : Span) → t ∈ (whole_span ∷ []) → Nested (whole_span ∷ []) t.serial t.opening
-      one-nested t (here e) = subst (λ z. Nested (whole_span ∷ []) z.serial z.opening) (sym e) refl
-      one-nested t (there q) = elim q [ ]
+      one_nested : (t : Span) → t ∈ (whole_span ∷ []) → Nested (whole_span ∷ []) t.serial t.opening
+      one_nested t (here e) = subst (λ z. Nested (whole_span ∷ []) z.serial z.opening) (sym e) refl
+      one_nested t (there q) = elim q [ ]
 
-      one-young : (t : Span) → t ∈ (whole_span ∷ []) → t.serial < 1
-      one-young t (here e) = subst (λ z. z.serial < 1) (sym e) (omega arith)
-      one-young t (there q) = elim q [ ]
+      one_young : (t : Span) → t ∈ (whole_span ∷ []) → t.serial < 1
+      one_young t (here e) = subst (λ z. z.serial < 1) (sym e) (omega arith)
+      one_young t (there q) = elim q [ ]
 
-      one-body : (t : Span) → t ∈ (whole_span ∷ []) → RunsBody (first_work p) t
-      one-body t (here e) g o f = absurd (both_ways t.fresh (ap (λ z. z.fresh) e) f)
-      one-body t (there q) g o f = elim q [ ]
+      one_body : (t : Span) → t ∈ (whole_span ∷ []) → RunsBody (first_work p) t
+      one_body t (here e) g o f = absurd (both_ways t.fresh (ap (λ z. z.fresh) e) f)
+      one_body t (there q) g o f = elim q [ ]
 
 module _ (S : Setting) (L : Limits S.sheet) {ρ : ℕ → ℕ → ℤ} where
   -- so does every state of a run, and each settled one is at rest
-  pub begins-tidy : {k : ℕ} {w : Work} → Begins S ρ k w → Tidy S w
-  begins-tidy at_first = first-tidy S.sheet.run
-  begins-tidy (one_on {k = k} {w = w} {u = u} b r e) = next-tidy k w u (settles-rest S L k w (goes u false) u r.settled refl (begins-tidy b))
+  pub begins_tidy : {k : ℕ} {w : Work} → Begins S ρ k w → Tidy S w
+  begins_tidy at_first = first_tidy S.sheet.run
+  begins_tidy (one_on {k = k} {w = w} {u = u} b r e) = next_tidy k w u (settles_rest S L k w (goes u false) u r.settled refl (begins_tidy b))
 
-  pub row-rests : {k : ℕ} {w u : Work} → Begins S ρ k w → Rows S ρ k w u → Resting S k w u
-  row-rests {k} {w} {u} b r = settles-rest S L k w (goes u false) u r.settled refl (begins-tidy b)
+  pub row_rests : {k : ℕ} {w u : Work} → Begins S ρ k w → Rows S ρ k w u → Resting S k w u
+  row_rests {k} {w} {u} b r = settles_rest S L k w (goes u false) u r.settled refl (begins_tidy b)
 
 -- the ends at state k from those of the next
 abbrev back_by : End → ℕ → ℕ → ℕ
@@ -107,30 +107,30 @@ module _ (S : Setting) (L : Limits S.sheet) (ρ : ℕ → ℕ → ℤ) where
 
   module _ (k : ℕ) (w u : Work) (b : Begins S ρ k w) (r : Rows S ρ k w u) where
     R : Resting S k w u
-    R = row-rests S L b r
+    R = row_rests S L b r
 
     -- from what a span's end says, what a number's says
     ok_at : (E : ℕ → ℕ) → ((t : Span) → t ∈ u.spans → EndOk k E u t.serial) → (s : ℕ) → Lives u.spans s → EndOk k E u s
     ok_at E h s l = subst (λ z. EndOk k E u z) l.named (h l.span l.inside)
 
-    outer-at : (E : ℕ → ℕ) → ((t : Span) → t ∈ u.spans → EndOk k E u t.serial) → (t : Span) (g : Opening) → t ∈ u.spans → t.opening ≡ Some g → EndOk k E u g.follower.span
-    outer-at E h t g q e = let n : Nested u.spans t.serial (Some g) = subst (λ z. Nested u.spans t.serial z) e (R.tidy.nested t q) in ok_at E h g.follower.span n.1
+    outer_at : (E : ℕ → ℕ) → ((t : Span) → t ∈ u.spans → EndOk k E u t.serial) → (t : Span) (g : Opening) → t ∈ u.spans → t.opening ≡ Some g → EndOk k E u g.follower.span
+    outer_at E h t g q e = let n : Nested u.spans t.serial (Some g) = subst (λ z. Nested u.spans t.serial z) e (R.tidy.nested t q) in ok_at E h g.follower.span n.1
 
-    outer-on : (t : Span) (g : Opening) → t ∈ u.spans → t.opening ≡ Some g → u.ends t.serial ≡ On → u.ends g.follower.span ≡ On
-    outer-on t g q e o = let h : SpanRest u t.serial (Some g) = subst (λ z. SpanRest u t.serial z) e (R.rest.of_span t q) in h.0 o
+    outer_on : (t : Span) (g : Opening) → t ∈ u.spans → t.opening ≡ Some g → u.ends t.serial ≡ On → u.ends g.follower.span ≡ On
+    outer_on t g q e o = let h : SpanRest u t.serial (Some g) = subst (λ z. SpanRest u t.serial z) e (R.rest.of_span t q) in h.0 o
 
     -- one state back
-    fulfils-back : (E : ℕ → ℕ) → Met S ρ (suc k) E (next_work u) → Fulfils S ρ k (λ s. back_by (u.ends s) k (E s)) u
-    fulfils-back E M = record {
+    fulfils_back : (E : ℕ → ℕ) → Met S ρ (suc k) E (next_work u) → Fulfils S ρ k (λ s. back_by (u.ends s) k (E s)) u
+    fulfils_back E M = record {
       rest = R.rest;
       given = r.complete.all_given;
       values = r.values;
       duty_ends = λ d q. ok_at B spans d.span (R.tidy.duty_lives d q);
       span_ends = spans;
-      outer_ends = outer-at B spans;
+      outer_ends = outer_at B spans;
       bodies = R.tidy.bodies;
       carried_on = λ d q. subst (λ j. Due S ρ (suc k) j d) (sym (back_on k (E d.span) (R.tidy.later_lives d q).1)) (M.dues d q);
-      followed = λ t g q e o. subst₂ (λ i j. (i ≤ j) × Due S ρ i j g.follower) (sym (back_on k (E t.serial) o)) (sym (back_on k (E g.follower.span) (outer-on t g q e o))) (M.follow (stale t) g (in_going u.ends u.spans t q o) e);
+      followed = λ t g q e o. subst₂ (λ i j. (i ≤ j) × Due S ρ i j g.follower) (sym (back_on k (E t.serial) o)) (sym (back_on k (E g.follower.span) (outer_on t g q e o))) (M.follow (stale t) g (in_going u.ends u.spans t q o) e);
     }
       where
         B : ℕ → ℕ
@@ -145,30 +145,30 @@ module _ (S : Setting) (L : Limits S.sheet) (ρ : ℕ → ℕ → ℤ) where
         spans t q = (r.complete.all_ended_says t q, by t q (u.ends t.serial) refl)
 
     -- when the whole span is last, no span is on
-    none-on : u.ends 0 ≡ Last → (b : ℕ) (t : Span) → t ∈ u.spans → t.serial < b → u.ends t.serial ≡ On → ⊥
-    none-on z zero t q l o = omega arith
-    none-on z (suc b) t q l o = by t.opening refl (R.tidy.nested t q) (none-on z b)
+    none_on : u.ends 0 ≡ Last → (b : ℕ) (t : Span) → t ∈ u.spans → t.serial < b → u.ends t.serial ≡ On → ⊥
+    none_on z zero t q l o = omega arith
+    none_on z (suc b) t q l o = by t.opening refl (R.tidy.nested t q) (none_on z b)
       where
         by : (s : Option Opening) → t.opening ≡ s → Nested u.spans t.serial s → ((r : Span) → r ∈ u.spans → r.serial < b → u.ends r.serial ≡ On → ⊥) → ⊥
         by None e n ih = on_last (sym o ∙ ap u.ends n ∙ z)
-        by (Some g) e n ih = let v : Lives u.spans g.follower.span = n.1 in ih v.span v.inside (omega (arith, v.named, n.0)) (ap u.ends v.named ∙ outer-on t g q e o)
+        by (Some g) e n ih = let v : Lives u.spans g.follower.span = n.1 in ih v.span v.inside (omega (arith, v.named, n.0)) (ap u.ends v.named ∙ outer_on t g q e o)
 
-    fulfils-last : u.ends 0 ≡ Last → Fulfils S ρ k (λ s. k) u
-    fulfils-last z = record {
+    fulfils_last : u.ends 0 ≡ Last → Fulfils S ρ k (λ s. k) u
+    fulfils_last z = record {
       rest = R.rest;
       given = r.complete.all_given;
       values = r.values;
       duty_ends = λ d q. ok_at (λ s. k) spans d.span (R.tidy.duty_lives d q);
       span_ends = spans;
-      outer_ends = outer-at (λ s. k) spans;
+      outer_ends = outer_at (λ s. k) spans;
       bodies = R.tidy.bodies;
-      carried_on = λ d q. let l : Lives u.spans d.span = (R.tidy.later_lives d q).0 in absurd (none-on z (suc l.span.serial) l.span l.inside (omega arith) (ap u.ends l.named ∙ (R.tidy.later_lives d q).1));
-      followed = λ t g q e o. absurd (none-on z (suc t.serial) t q (omega arith) o);
+      carried_on = λ d q. let l : Lives u.spans d.span = (R.tidy.later_lives d q).0 in absurd (none_on z (suc l.span.serial) l.span l.inside (omega arith) (ap u.ends l.named ∙ (R.tidy.later_lives d q).1));
+      followed = λ t g q e o. absurd (none_on z (suc t.serial) t q (omega arith) o);
     }
       where
         by : (t : Span) → t ∈ u.spans → (c : End) → u.ends t.serial ≡ c → EndSays k k c
         by t q Unknown e = tt
-        by t q On e = absurd (none-on z (suc t.serial) t q (omega arith) e)
+        by t q On e = absurd (none_on z (suc t.serial) t q (omega arith) e)
         by t q Last e = refl
 
         spans : (t : Span) → t ∈ u.spans → EndOk k (λ s. k) u t.serial
@@ -178,9 +178,9 @@ module _ (S : Setting) (L : Limits S.sheet) (ρ : ℕ → ℕ → ℤ) where
   back : {m k : ℕ} {w : Work} → Begins S ρ k w → (E : ℕ → ℕ) → Met S ρ k E w → E 0 ≡ m → Owed S ρ 0 m (statement_at S S.sheet.run) None
   back at_first E M e = subst (λ j. Owed S ρ 0 j (statement_at S S.sheet.run) None) e (M.dues (plain S.sheet.run 0) (here refl))
   back (one_on {k = k} {w = w} {u = u} b r o) E M e =
-      back b (λ s. back_by (u.ends s) k (E s)) (met_less (row-rests S L b r).grown (met_of (fulfils-back k w u b r E M))) (back_on k (E 0) o ∙ e)
+      back b (λ s. back_by (u.ends s) k (E s)) (met_less (row_rests S L b r).grown (met_of (fulfils_back k w u b r E M))) (back_on k (E 0) o ∙ e)
 
   -- the statement that is run holds on a finished record
-  pub ends-hold : {k : ℕ} {w u : Work} → Ends S ρ k w u → Owed S ρ 0 k (statement_at S S.sheet.run) None
-  ends-hold {k} {w} {u} f =
-      back f.begun (λ s. k) (met_less (row-rests S L f.begun f.row).grown (met_of (fulfils-last k w u f.begun f.row f.over))) refl
+  pub ends_hold : {k : ℕ} {w u : Work} → Ends S ρ k w u → Owed S ρ 0 k (statement_at S S.sheet.run) None
+  ends_hold {k} {w} {u} f =
+      back f.begun (λ s. k) (met_less (row_rests S L f.begun f.row).grown (met_of (fulfils_last k w u f.begun f.row f.over))) refl

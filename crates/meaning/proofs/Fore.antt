@@ -16,7 +16,7 @@ use Rattle.meaning.specs.Order.{◌∈◌, here, there}
 use Rattle.meaning.proofs.Owed.{Owed}
 use Rattle.meaning.proofs.Known.{IsGiven}
 use Rattle.meaning.proofs.Explained.{DutyOk, OpeningOk, Explains}
-use Rattle.meaning.proofs.Passed.{explained, good-settles, no-contradiction}
+use Rattle.meaning.proofs.Passed.{explained, good_settles, no_contradiction}
 use Rattle.meaning.proofs.Begun.{Rows, Begins, at_first, one_on, Ends, Stays, going_in, end_on, end_last}
 
 agree : (q : Option ℤ) (r s : ℤ) → IsGiven q → Agrees q r → Agrees q s → r ≡ s
@@ -28,8 +28,8 @@ opening_on S σ k n E s None l h = tt
 opening_on S σ k n E s (Some g) l h = (l, h.1, h.2, h.3)
 
 module _ {S : Setting} {σ : ℕ → ℕ → ℤ} {m k n : ℕ} {E : ℕ → ℕ} where
-  next-explained : (u : Work) → Explains S σ m k n E u → ((x : ℕ) → fits S x (σ (suc k) x) ≡ true) → Explains S σ m (suc k) n E (next_work u)
-  next-explained u X r = record {
+  next_explained : (u : Work) → Explains S σ m k n E u → ((x : ℕ) → fits S x (σ (suc k) x) ≡ true) → Explains S σ m (suc k) n E (next_work u)
+  next_explained u X r = record {
     next_is = X.next_is;
     first = X.first;
     whole = X.whole;
@@ -37,13 +37,13 @@ module _ {S : Setting} {σ : ℕ → ℕ → ℤ} {m k n : ℕ} {E : ℕ → ℕ
     values = λ x. tt;
     ends = λ s. tt;
     serials = λ t q. let h : Stays u.ends u.spans t = going_in u.ends u.spans t q in subst (λ s. s < n) h.same_serial (X.serials h.was h.was_in);
-    openings = λ t q. opening-still t (going_in u.ends u.spans t q);
+    openings = λ t q. opening_still t (going_in u.ends u.spans t q);
     duties = X.later;
     later = λ d q. elim q [ ];
   }
     where
-      opening-still : (t : Span) → Stays u.ends u.spans t → OpeningOk S σ (suc k) n E t.serial t.opening
-      opening-still t h =
+      opening_still : (t : Span) → Stays u.ends u.spans t → OpeningOk S σ (suc k) n E t.serial t.opening
+      opening_still t h =
           subst₂ (λ s q. OpeningOk S σ (suc k) n E s q) h.same_serial h.same_opening_says
           (opening_on S σ k n E h.was.serial h.was.opening (end_on h.is_on (X.ends h.was.serial)) (X.openings h.was h.was_in))
 
@@ -61,8 +61,8 @@ pub record Fits (S : Setting) (σ : ℕ → ℕ → ℤ) (m : ℕ) : Type 0 wher
   pub holds : Owed S σ 0 m (statement_at S S.sheet.run) None
 
 module _ (S : Setting) (L : Limits S.sheet) {ρ σ : ℕ → ℕ → ℤ} {m : ℕ} (G : Fits S σ m) where
-  fore-start : Fore S ρ σ m 0 (first_work S.sheet.run)
-  fore-start = record {
+  fore_start : Fore S ρ σ m 0 (first_work S.sheet.run)
+  fore_start = record {
     within = omega arith;
     same = λ i h. absurd (omega arith);
     n = 1;
@@ -74,24 +74,24 @@ module _ (S : Setting) (L : Limits S.sheet) {ρ σ : ℕ → ℕ → ℤ} {m : �
       ranged = G.legal 0 (omega arith);
       values = λ x. tt;
       ends = λ s. tt;
-      serials = one-serial;
-      openings = one-opening;
-      duties = one-duty;
+      serials = one_serial;
+      openings = one_opening;
+      duties = one_duty;
       later = λ d q. elim q [ ];
     };
   }
     where
-      one-serial : (t : Span) → t ∈ (whole_span ∷ []) → t.serial < 1
-      one-serial t (here e) = subst (λ z. z.serial < 1) (sym e) (omega arith)
-      one-serial t (there q) = elim q [ ]
+      one_serial : (t : Span) → t ∈ (whole_span ∷ []) → t.serial < 1
+      one_serial t (here e) = subst (λ z. z.serial < 1) (sym e) (omega arith)
+      one_serial t (there q) = elim q [ ]
 
-      one-opening : (t : Span) → t ∈ (whole_span ∷ []) → OpeningOk S σ 0 1 (λ _. m) t.serial t.opening
-      one-opening t (here e) = subst (λ z. OpeningOk S σ 0 1 (λ _. m) z.serial z.opening) (sym e) tt
-      one-opening t (there q) = elim q [ ]
+      one_opening : (t : Span) → t ∈ (whole_span ∷ []) → OpeningOk S σ 0 1 (λ _. m) t.serial t.opening
+      one_opening t (here e) = subst (λ z. OpeningOk S σ 0 1 (λ _. m) z.serial z.opening) (sym e) tt
+      one_opening t (there q) = elim q [ ]
 
-      one-duty : (d : Duty) → d ∈ (plain S.sheet.run 0 ∷ []) → DutyOk S σ 0 1 (λ _. m) d
-      one-duty d (here e) = subst (λ z. DutyOk S σ 0 1 (λ _. m) z) (sym e) (omega arith, omega arith, G.holds)
-      one-duty d (there q) = elim q [ ]
+      one_duty : (d : Duty) → d ∈ (plain S.sheet.run 0 ∷ []) → DutyOk S σ 0 1 (λ _. m) d
+      one_duty d (here e) = subst (λ z. DutyOk S σ 0 1 (λ _. m) z) (sym e) (omega arith, omega arith, G.holds)
+      one_duty d (there q) = elim q [ ]
 
   agrees : {k : ℕ} {w u : Work} → Fore S ρ σ m k w → (n : ℕ) (E : ℕ → ℕ) → Explains S σ m k n E u → Rows S ρ k w u → (i : ℕ) → i < suc k → (x : ℕ) → x < width S → ρ i x ≡ σ i x
   agrees {k} {w} {u} B n E X R i h x l = by (ℕ_discrete i k)
@@ -101,29 +101,29 @@ module _ (S : Setting) (L : Limits S.sheet) {ρ σ : ℕ → ℕ → ℤ} {m : �
       by (no q) = B.same i (omega arith) x l
 
   -- the settled work is explained too
-  settled-explained : {k : ℕ} {w u : Work} → Fore S ρ σ m k w → Rows S ρ k w u → (n : ℕ) × (E : ℕ → ℕ) × Explains S σ m k n E u
-  settled-explained {k} {w} {u} B R = explained S L (good-settles S L w (goes u false) R.settled B.n B.E B.explains)
+  settled_explained : {k : ℕ} {w u : Work} → Fore S ρ σ m k w → Rows S ρ k w u → (n : ℕ) × (E : ℕ → ℕ) × Explains S σ m k n E u
+  settled_explained {k} {w} {u} B R = explained S L (good_settles S L w (goes u false) R.settled B.n B.E B.explains)
 
-  fore-step : {k : ℕ} {w u : Work} → Fore S ρ σ m k w → Rows S ρ k w u → u.ends 0 ≡ On → Fore S ρ σ m (suc k) (next_work u)
-  fore-step {k} {w} {u} B R e =
-      let y : (n : ℕ) × (E : ℕ → ℕ) × Explains S σ m k n E u = settled-explained B R in
+  fore_step : {k : ℕ} {w u : Work} → Fore S ρ σ m k w → Rows S ρ k w u → u.ends 0 ≡ On → Fore S ρ σ m (suc k) (next_work u)
+  fore_step {k} {w} {u} B R e =
+      let y : (n : ℕ) × (E : ℕ → ℕ) × Explains S σ m k n E u = settled_explained B R in
       let X : Explains S σ m k y.0 y.1 u = y.2 in
       let lt : k < m = subst (λ j. k < j) X.whole (end_on e (X.ends 0)) in
-      record { within = lt; same = agrees B y.0 y.1 X R; n = y.0; E = y.1; explains = next-explained u X (G.legal (suc k) lt) }
+      record { within = lt; same = agrees B y.0 y.1 X R; n = y.0; E = y.1; explains = next_explained u X (G.legal (suc k) lt) }
 
   pub fore : {k : ℕ} {w : Work} → Begins S ρ k w → Fore S ρ σ m k w
-  fore at_first = fore-start
-  fore (one_on b R e) = fore-step (fore b) R e
+  fore at_first = fore_start
+  fore (one_on b R e) = fore_step (fore b) R e
 
   -- after a contradiction no interval satisfies the sheet
-  pub contradiction-refutes : {k : ℕ} {w : Work} {place : ℕ} → Begins S ρ k w → Settles S k w (stops (Contradiction place)) → ⊥
-  contradiction-refutes {k} {w} b r = let B : Fore S ρ σ m k w = fore b in no-contradiction S L w r B.n B.E B.explains
+  pub contradiction_refutes : {k : ℕ} {w : Work} {place : ℕ} → Begins S ρ k w → Settles S k w (stops (Contradiction place)) → ⊥
+  contradiction_refutes {k} {w} b r = let B : Fore S ρ σ m k w = fore b in no_contradiction S L w r B.n B.E B.explains
 
   -- a finished record is the whole of every satisfying interval
   pub ends_same : {k : ℕ} {w u : Work} → Ends S ρ k w u → (m ≡ k) × ((i : ℕ) → i ≤ m → (x : ℕ) → x < width S → ρ i x ≡ σ i x)
   ends_same {k} {w} {u} f =
       let B : Fore S ρ σ m k w = fore f.begun in
-      let y : (n : ℕ) × (E : ℕ → ℕ) × Explains S σ m k n E u = settled-explained B f.row in
+      let y : (n : ℕ) × (E : ℕ → ℕ) × Explains S σ m k n E u = settled_explained B f.row in
       let X : Explains S σ m k y.0 y.1 u = y.2 in
       let e : m ≡ k = sym X.whole ∙ end_last f.over (X.ends 0) in
       (e, λ i h. agrees B y.0 y.1 X f.row i (omega arith))

@@ -17,7 +17,7 @@ use Rattle.meaning.specs.Runs.{kept_by, going_on, next_work, recorded, Open, sta
 use Rattle.meaning.specs.Laws.{Roomy, FuelSuffices}
 use Rattle.meaning.proofs.Lists.{longer, nth_within}
 use Rattle.meaning.proofs.Steady.{Steady, steady}
-use Rattle.meaning.proofs.Kept.{OfWork, Kept, kept-visit, kept-pass, kept_settles}
+use Rattle.meaning.proofs.Kept.{OfWork, Kept, kept_visit, kept_pass, kept_settles}
 
 -- one more in a list that has room for it
 one_more : {A : Type 0} (l : List A) (x : A) (n : ℕ) → ltb (length l) n ≡ true → length (l ++ (x ∷ [])) ≤ n
@@ -92,16 +92,16 @@ then_same (goes u c) f g h e = ap (also c) (e u h)
 module _ (S : Setting) (k extra : ℕ) where
   or_same : (q : Option Duty) (f g : Work → Outcome) (w : Work) → Roomy w → ((d : Duty) → q ≡ Some d → (u : Work) → Roomy u → f u ≡ g u) → visit_or S k q f w ≡ visit_or S k q g w
   or_same None f g w h e = refl
-  or_same (Some d) f g w h e = then_same (visit S k d w) f g (kept-visit S Roomy (roomy_kept S) k d w h) (e d refl)
+  or_same (Some d) f g w h e = then_same (visit S k d w) f g (kept_visit S Roomy (roomy_kept S) k d w h) (e d refl)
 
   -- with a visit left for each place up to the limit, and one more
-  more-fuel : (f i : ℕ) (w : Work) → i ≤ most_duties → most_duties < f + i → Roomy w → visit_duties S k (f + extra) i w ≡ visit_duties S k f i w
-  more-fuel zero i w l m h = absurd (omega arith)
-  more-fuel (suc f) i w l m h =
+  more_fuel : (f i : ℕ) (w : Work) → i ≤ most_duties → most_duties < f + i → Roomy w → visit_duties S k (f + extra) i w ≡ visit_duties S k f i w
+  more_fuel zero i w l m h = absurd (omega arith)
+  more_fuel (suc f) i w l m h =
       let p : suc f + extra ≡ suc (f + extra) = omega arith in
       ap (λ (z : ℕ). visit_duties S k z i w) p
       ∙ or_same (slice_get w.duties i) (visit_duties S k (f + extra) (suc i)) (visit_duties S k f (suc i)) w h
-      (λ d e u g. more-fuel f (suc i) u (omega (arith, nth_within w.duties i d e, h.duties)) (omega arith) g)
+      (λ d e u g. more_fuel f (suc i) u (omega (arith, nth_within w.duties i d e, h.duties)) (omega arith) g)
 
 fuel_is : most_duties < pass_fuel + 0
 unfolding pass_fuel
@@ -109,7 +109,7 @@ fuel_is = omega arith
 
 pub fuel_suffices : FuelSuffices
 fuel_suffices = record {
-  enough = λ S k extra w h. more-fuel S k extra pass_fuel 0 w (omega arith) fuel_is h;
+  enough = λ S k extra w h. more_fuel S k extra pass_fuel 0 w (omega arith) fuel_is h;
   started = λ S r w o. open_roomy o;
-  passed = λ S k w u c h e. subst (λ (z : Outcome). OfWork Roomy z) e (kept-pass S Roomy (roomy_kept S) k w h);
+  passed = λ S k w u c h e. subst (λ (z : Outcome). OfWork Roomy z) e (kept_pass S Roomy (roomy_kept S) k w h);
 }

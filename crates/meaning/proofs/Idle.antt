@@ -10,10 +10,10 @@ use Rattle.meaning.specs.Work.{Work, Outcome, stops, goes, also, and_then}
 use Rattle.meaning.specs.Effects.{put, add}
 use Rattle.meaning.specs.Rules.{visit, take_last, hand_on, visit_opened, visit_span}
 use Rattle.meaning.specs.Order.{◌∈◌, Later}
-use Rattle.meaning.proofs.Kept.{OfWork, kept-hand}
-use Rattle.meaning.proofs.Later.{later_refl, later_duty, later-kept, end_stays}
+use Rattle.meaning.proofs.Kept.{OfWork, kept_hand}
+use Rattle.meaning.proofs.Later.{later_refl, later_duty, later_kept, end_stays}
 use Rattle.meaning.proofs.Spent.{Spent, put-again, add-again, then_again, rule-again}
-use Rattle.meaning.proofs.Spending.{spent-later, add_does, put_does, of_more, of_both, of_then, OnChange, changed_so, Lasting, rule-spends}
+use Rattle.meaning.proofs.Spending.{spent_later, add_does, put_does, of_more, of_both, of_then, OnChange, changed_so, Lasting, rule_spends}
 
 -- a span that can have no further effect: it is on and has told so, or it is last and has added what follows it
 abbrev SpanSpent : Work → ℕ → Option Opening → Type 0
@@ -52,17 +52,17 @@ hand_change S w s g Unknown l e = tt
 hand_change S w s g On l e =
     changed_so _ (put g.by On g.follower.span w)
     (of_more (λ u. Later w u × (u.ends g.follower.span ≡ On)) (λ u. SpanSpent u s (Some g)) (put g.by On g.follower.span w) (λ u r. inl (end_stays s On r.0 l e tt, r.1))
-    (of_both (Later w) (λ u. u.ends g.follower.span ≡ On) (put g.by On g.follower.span w) ((later-kept S w).puts g.by On g.follower.span w (later_refl w)) (put_does g.by On g.follower.span w tt)))
+    (of_both (Later w) (λ u. u.ends g.follower.span ≡ On) (put g.by On g.follower.span w) ((later_kept S w).puts g.by On g.follower.span w (later_refl w)) (put_does g.by On g.follower.span w tt)))
 hand_change S w s g Last l e =
     changed_so _ (add g.follower w)
     (of_more (λ u. Later w u × (g.follower ∈ u.duties)) (λ u. SpanSpent u s (Some g)) (add g.follower w) (λ u r. inr (end_stays s Last r.0 l e tt, r.1))
-    (of_both (Later w) (λ u. g.follower ∈ u.duties) (add g.follower w) ((later-kept S w).adds g.follower w (later_refl w)) (add_does g.follower w)))
+    (of_both (Later w) (λ u. g.follower ∈ u.duties) (add g.follower w) ((later_kept S w).adds g.follower w (later_refl w)) (add_does g.follower w)))
 
 hand_last : (S : Setting) (u : Work) (s : ℕ) (g : Opening) → s < u.next → u.ends s ≡ Last → OfWork (λ v. SpanSpent v s (Some g)) (hand_on (u.ends s) g u)
 hand_last S u s g l e =
     subst (λ c. OfWork (λ v. SpanSpent v s (Some g)) (hand_on c g u)) (sym e)
     (of_more (λ v. Later u v × (g.follower ∈ v.duties)) (λ v. SpanSpent v s (Some g)) (add g.follower u) (λ v r. inr (end_stays s Last r.0 l e tt, r.1))
-    (of_both (Later u) (λ v. g.follower ∈ v.duties) (add g.follower u) ((later-kept S u).adds g.follower u (later_refl u)) (add_does g.follower u)))
+    (of_both (Later u) (λ v. g.follower ∈ v.duties) (add g.follower u) ((later_kept S u).adds g.follower u (later_refl u)) (add_does g.follower u)))
 
 opened_change : (S : Setting) (w : Work) (s : ℕ) (g : Opening) (c : End) → s < w.next → OnChange (λ u. SpanSpent u s (Some g)) (and_then (take_last c g.by s w) (λ u. hand_on (u.ends s) g u))
 opened_change S w s g Unknown l = also_change _ (hand_on (w.ends s) g w) (hand_change S w s g (w.ends s) l refl)
@@ -71,14 +71,14 @@ opened_change S w s g Last l =
     changed_so _ (and_then (put g.by Last s w) (λ u. hand_on (u.ends s) g u))
     (of_then (λ u. (u.ends s ≡ Last) × (s < u.next)) (λ u. SpanSpent u s (Some g)) (λ u. SpanSpent u s (Some g)) (put g.by Last s w) (λ u. hand_on (u.ends s) g u)
     (of_more (λ u. Later w u × (u.ends s ≡ Last)) (λ u. (u.ends s ≡ Last) × (s < u.next)) (put g.by Last s w) (λ u r. (r.1, omega (arith, l, r.0.serials)))
-    (of_both (Later w) (λ u. u.ends s ≡ Last) (put g.by Last s w) ((later-kept S w).puts g.by Last s w (later_refl w)) (put_does g.by Last s w tt)))
-    (λ u h. hand_last S u s g h.1 h.0) (λ u v h n q. q) (λ u. kept-hand S (Later u) (later-kept S u) (u.ends s) g u (later_refl u)))
+    (of_both (Later w) (λ u. u.ends s ≡ Last) (put g.by Last s w) ((later_kept S w).puts g.by Last s w (later_refl w)) (put_does g.by Last s w tt)))
+    (λ u h. hand_last S u s g h.1 h.0) (λ u v h n q. q) (λ u. kept_hand S (Later u) (later_kept S u) (u.ends s) g u (later_refl u)))
 
 -- a visit to a duty that has changed something changes nothing more in this state
 pub visit-idle : (S : Setting) (k : ℕ) (d : Duty) (w u : Work) → d.span < w.next → (Lasting (statement_at S d.statement) → ⊥) → visit S k d w ≡ goes u true → Later w u → (v : Work) → Later u v → visit S k d v ≡ goes v false
 visit-idle S k d w u l n e h v m =
-    let p : Spent S k d u (statement_at S d.statement) d.number = subst (OnChange (λ z. Spent S k d z (statement_at S d.statement) d.number)) e (rule-spends S k d w l (statement_at S d.statement) d.number n) in
-    rule-again S k d v (statement_at S d.statement) d.number (spent-later S k d u v m (omega (arith, l, h.serials)) (statement_at S d.statement) d.number p)
+    let p : Spent S k d u (statement_at S d.statement) d.number = subst (OnChange (λ z. Spent S k d z (statement_at S d.statement) d.number)) e (rule_spends S k d w l (statement_at S d.statement) d.number n) in
+    rule-again S k d v (statement_at S d.statement) d.number (spent_later S k d u v m (omega (arith, l, h.serials)) (statement_at S d.statement) d.number p)
 
 -- nor does a visit to a span
 pub span_idle : (S : Setting) (t : Span) (w u : Work) → Inside w.next t.serial t.opening → visit_span t w ≡ goes u true → Later w u → (v : Work) → Later u v → visit_span t v ≡ goes v false

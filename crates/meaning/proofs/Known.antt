@@ -58,6 +58,6 @@ module _ (S : Setting) (L : Limits S.sheet) where
       (known_agrees (width S) S.sheet.expressions L.expressions f c (σ k) (eqb k j) (λ x l. hv x) (end_bit k j c he) e)
 
   -- where every variable and the end are known, so is the number of every expression
-  pub known-all : (f : ℕ → Option ℤ) (c : End) (e : ℕ) (σ : ℕ → ℕ → ℤ) (k j : ℕ) → ((x : ℕ) → x < width S → IsGiven (f x)) → ((x : ℕ) → x < width S → Agrees (f x) (σ k x)) → IsEnded c → EndSays k j c → known_at S.sheet.expressions f c e ≡ Some (number_on S σ k j e)
-  known-all f c e σ k j g hv s he =
+  pub known_all : (f : ℕ → Option ℤ) (c : End) (e : ℕ) (σ : ℕ → ℕ → ℤ) (k j : ℕ) → ((x : ℕ) → x < width S → IsGiven (f x)) → ((x : ℕ) → x < width S → Agrees (f x) (σ k x)) → IsEnded c → EndSays k j c → known_at S.sheet.expressions f c e ≡ Some (number_on S σ k j e)
+  known_all f c e σ k j g hv s he =
       known_total (width S) S.sheet.expressions L.expressions f c (σ k) (eqb k j) (λ x l. given_is (f x) (σ k x) (g x l) (hv x l)) (end_decided k j c s he) e

@@ -53,8 +53,8 @@ ended_not On i e = unknown_on (sym e)
 ended_not Last i e = unknown_last (sym e)
 
 module _ (S : Setting) (w : Work) where
-  later-value : (x : ℕ) (v : ℤ) (u : Work) → u.known x ≡ None → Later w u → Later w (with_value x v u)
-  later-value x v u n h = record {
+  later_value : (x : ℕ) (v : ℤ) (u : Work) → u.known x ≡ None → Later w u → Later w (with_value x v u)
+  later_value x v u n h = record {
     knowns = λ y z e.
         cond_both (eqb x y) (Some v) (u.known y) (λ o. o ≡ Some z)
         (λ p. absurd (none_some z (sym (ap u.known (sym (eqb-true x y p)) ∙ n) ∙ h.knowns y z e))) (λ p. h.knowns y z e);
@@ -65,12 +65,12 @@ module _ (S : Setting) (w : Work) where
     serials = h.serials;
   }
 
-  later-give : (p : ℕ) (q : Option ℤ) (x : ℕ) (v : ℤ) (u : Work) → u.known x ≡ q → Later w u → OfWork (Later w) (give_by S p q x v u)
-  later-give p None x v u n h = cond_both (fits S x v) (changed (with_value x v u)) (stops (Contradiction p)) (OfWork (Later w)) (λ e. later-value x v u n h) (λ e. tt)
-  later-give p (Some a) x v u n h = cond_both (same a v) (unchanged u) (stops (Contradiction p)) (OfWork (Later w)) (λ e. h) (λ e. tt)
+  later_give : (p : ℕ) (q : Option ℤ) (x : ℕ) (v : ℤ) (u : Work) → u.known x ≡ q → Later w u → OfWork (Later w) (give_by S p q x v u)
+  later_give p None x v u n h = cond_both (fits S x v) (changed (with_value x v u)) (stops (Contradiction p)) (OfWork (Later w)) (λ e. later_value x v u n h) (λ e. tt)
+  later_give p (Some a) x v u n h = cond_both (same a v) (unchanged u) (stops (Contradiction p)) (OfWork (Later w)) (λ e. h) (λ e. tt)
 
-  later-end : (e : End) (s : ℕ) (u : Work) → u.ends s ≡ Unknown → Later w u → Later w (with_end e s u)
-  later-end e s u n h = record {
+  later_end : (e : End) (s : ℕ) (u : Work) → u.ends s ≡ Unknown → Later w u → Later w (with_end e s u)
+  later_end e s u n h = record {
     knowns = h.knowns;
     ends = λ t l i.
         cond_both (eqb s t) e (u.ends t) (λ z. z ≡ w.ends t)
@@ -81,23 +81,23 @@ module _ (S : Setting) (w : Work) where
     serials = h.serials;
   }
 
-  later-put : (p : ℕ) (c e : End) (s : ℕ) (u : Work) → u.ends s ≡ c → Later w u → OfWork (Later w) (put_by p c e s u)
-  later-put p Unknown Unknown s u n h = h
-  later-put p Unknown On s u n h = later-end On s u n h
-  later-put p Unknown Last s u n h = later-end Last s u n h
-  later-put p On Unknown s u n h = h
-  later-put p On On s u n h = h
-  later-put p On Last s u n h = tt
-  later-put p Last Unknown s u n h = h
-  later-put p Last On s u n h = tt
-  later-put p Last Last s u n h = h
+  later_put : (p : ℕ) (c e : End) (s : ℕ) (u : Work) → u.ends s ≡ c → Later w u → OfWork (Later w) (put_by p c e s u)
+  later_put p Unknown Unknown s u n h = h
+  later_put p Unknown On s u n h = later_end On s u n h
+  later_put p Unknown Last s u n h = later_end Last s u n h
+  later_put p On Unknown s u n h = h
+  later_put p On On s u n h = h
+  later_put p On Last s u n h = tt
+  later_put p Last Unknown s u n h = h
+  later_put p Last On s u n h = tt
+  later_put p Last Last s u n h = h
 
-  room-later : (b : Bool) (u : Work) → Later w u → OfWork (Later w) (if_room b u)
-  room-later true u h = h
-  room-later false u h = tt
+  room_later : (b : Bool) (u : Work) → Later w u → OfWork (Later w) (if_room b u)
+  room_later true u h = h
+  room_later false u h = tt
 
-  later-new : (g : Opening) (u : Work) → Later w u → Later w (with_span g u)
-  later-new g u h = record {
+  later_new : (g : Opening) (u : Work) → Later w u → Later w (with_span g u)
+  later_new g u h = record {
     knowns = h.knowns;
     ends = λ t l i. set_other u.ends u.next g.starts t (omega (arith, h.serials)) ∙ h.ends t l i;
     duties = λ i d e. nth_left u.duties _ i d (h.duties i d e);
@@ -107,21 +107,21 @@ module _ (S : Setting) (w : Work) where
   }
 
   -- each visit keeps what is so of the works before it
-  pub later-kept : Kept S (Later w)
-  later-kept = record {
-    gives = λ p x v u h. later-give p (u.known x) x v u refl h;
-    puts = λ p e s u h. later-put p (u.ends s) e s u refl h;
+  pub later_kept : Kept S (Later w)
+  later_kept = record {
+    gives = λ p x v u h. later_give p (u.known x) x v u refl h;
+    puts = λ p e s u h. later_put p (u.ends s) e s u refl h;
     adds = λ d u h.
         let room : Bool = ltb (length u.duties) most_duties in
         cond_both (has_duty d u.duties) (unchanged u) (if_room room (with_duty d u)) (OfWork (Later w)) (λ _. h)
-        (λ _. room-later room (with_duty d u) (record { knowns = h.knowns; ends = h.ends; duties = λ i c e. nth_left u.duties d i c (h.duties i c e); carried = h.carried; spans = h.spans; serials = h.serials }));
+        (λ _. room_later room (with_duty d u) (record { knowns = h.knowns; ends = h.ends; duties = λ i c e. nth_left u.duties d i c (h.duties i c e); carried = h.carried; spans = h.spans; serials = h.serials }));
     carries = λ d u h.
         let room : Bool = ltb (length u.later) most_duties in
         cond_both (has_duty d u.later) (unchanged u) (if_room room (with_later d u)) (OfWork (Later w)) (λ _. h)
-        (λ _. room-later room (with_later d u) (record { knowns = h.knowns; ends = h.ends; duties = h.duties; carried = λ c q. ∈_left d (h.carried c q); spans = h.spans; serials = h.serials }));
+        (λ _. room_later room (with_later d u) (record { knowns = h.knowns; ends = h.ends; duties = h.duties; carried = λ c q. ∈_left d (h.carried c q); spans = h.spans; serials = h.serials }));
     opens = λ g u h.
         let room : Bool = ltb (length u.spans) most_spans && ltb (length u.duties) most_duties in
-        cond_both (has_opened g u.spans) (unchanged u) (if_room room (with_span g u)) (OfWork (Later w)) (λ _. h) (λ _. room-later room (with_span g u) (later-new g u h));
+        cond_both (has_opened g u.spans) (unchanged u) (if_room room (with_span g u)) (OfWork (Later w)) (λ _. h) (λ _. room_later room (with_span g u) (later_new g u h));
   }
 
 -- what is known of an end is known later too
@@ -146,18 +146,18 @@ more_last On e h v p = ap last_bit (h tt) ∙ p
 more_last Last e h v p = ap last_bit (h tt) ∙ p
 
 module _ (f g : ℕ → Option ℤ) (c e : End) (hv : (x : ℕ) → MoreKnown (f x) (g x)) (he : IsEnded c → e ≡ c) where
-  more-step : (x : Expression) (os qs : List (Option ℤ)) → Alike MoreKnown os qs → MoreKnown (known f c os x) (known g e qs x)
-  more-step (Num n) os qs h = λ v p. p
-  more-step (Val n) os qs h = hv n
-  more-step (Pair o a b) os qs h =
+  more_step : (x : Expression) (os qs : List (Option ℤ)) → Alike MoreKnown os qs → MoreKnown (known f c os x) (known g e qs x)
+  more_step (Num n) os qs h = λ v p. p
+  more_step (Val n) os qs h = hv n
+  more_step (Pair o a b) os qs h =
       more_two (apply o) (get_or os a (Some (pos 0))) (get_or os b (Some (pos 0))) (get_or qs a (Some (pos 0))) (get_or qs b (Some (pos 0)))
       (alike_at MoreKnown (Some (pos 0)) (Some (pos 0)) (λ v p. p) h a) (alike_at MoreKnown (Some (pos 0)) (Some (pos 0)) (λ v p. p) h b)
-  more-step (Not a) os qs h = more_one denied (get_or os a (Some (pos 0))) (get_or qs a (Some (pos 0))) (alike_at MoreKnown (Some (pos 0)) (Some (pos 0)) (λ v p. p) h a)
-  more-step LastOf os qs h = more_last c e he
+  more_step (Not a) os qs h = more_one denied (get_or os a (Some (pos 0))) (get_or qs a (Some (pos 0))) (alike_at MoreKnown (Some (pos 0)) (Some (pos 0)) (λ v p. p) h a)
+  more_step LastOf os qs h = more_last c e he
 
-  more-known : (es : List Expression) (i : ℕ) → MoreKnown (known_at es f c i) (known_at es g e i)
-  more-known es i = alike_at MoreKnown (Some (pos 0)) (Some (pos 0)) (λ v p. p) (tables_alike MoreKnown (known f c) (known g e) es [] [] (λ k h us vs a. more-step (get_or es k LastOf) us vs a) alike-none) i
+  more_known : (es : List Expression) (i : ℕ) → MoreKnown (known_at es f c i) (known_at es g e i)
+  more_known es i = alike_at MoreKnown (Some (pos 0)) (Some (pos 0)) (λ v p. p) (tables_alike MoreKnown (known f c) (known g e) es [] [] (λ k h us vs a. more_step (get_or es k LastOf) us vs a) alike-none) i
 
 -- a number that is known for a duty stays
 pub shows_later : (S : Setting) (d : Duty) (w u : Work) (e : ℕ) (v : ℤ) → Later w u → d.span < w.next → Shows S d w e v → Shows S d u e v
-shows_later S d w u e v h l s = more-known w.known u.known (w.ends d.span) (u.ends d.span) h.knowns (h.ends d.span l) S.sheet.expressions e v s
+shows_later S d w u e v h l s = more_known w.known u.known (w.ends d.span) (u.ends d.span) h.knowns (h.ends d.span l) S.sheet.expressions e v s

@@ -40,21 +40,21 @@ abbrev pub Any : Work → Type 0
 Any w = Unit {0}
 
 module _ {S : Setting} {w : Work} {P : Work → Type 0} where
-  moves-room : (b : Bool) (u : Work) → (b ≡ true → Moves S w P (goes u true)) → Moves S w P (if_room b u)
-  moves-room true u h = h refl
-  moves-room false u h = moves_stop
+  moves_room : (b : Bool) (u : Work) → (b ≡ true → Moves S w P (goes u true)) → Moves S w P (if_room b u)
+  moves_room true u h = h refl
+  moves_room false u h = moves_stop
 
-  moves-after : {v : Work} {o : Outcome} (c : Bool) → Grows v w → Less (width S) c w v → Moves S w P o → Moves S v P (also c o)
-  moves-after c a f moves_stop = moves_stop
-  moves-after c a f (moves_on {c = b} g l t p) = moves_on (grows_trans a g) (less_trans c b f l) t p
+  moves_after : {v : Work} {o : Outcome} (c : Bool) → Grows v w → Less (width S) c w v → Moves S w P o → Moves S v P (also c o)
+  moves_after c a f moves_stop = moves_stop
+  moves_after c a f (moves_on {c = b} g l t p) = moves_on (grows_trans a g) (less_trans c b f l) t p
 
-  pub moves-any : {o : Outcome} → Moves S w P o → Moves S w Any o
-  moves-any moves_stop = moves_stop
-  moves-any (moves_on g l t p) = moves_on g l t tt
+  pub moves_any : {o : Outcome} → Moves S w P o → Moves S w Any o
+  moves_any moves_stop = moves_stop
+  moves_any (moves_on g l t p) = moves_on g l t tt
 
 pub moves_then : {S : Setting} {w : Work} {P Q : Work → Type 0} {o : Outcome} (f : Work → Outcome) → Moves S w P o → ((u : Work) → Grows w u → Tidy S u → P u → Moves S u Q (f u)) → Moves S w Q (and_then o f)
 moves_then f moves_stop h = moves_stop
-moves_then f (moves_on {u = u} {c = c} g l t p) h = moves-after c g l (h u g t p)
+moves_then f (moves_on {u = u} {c = c} g l t p) h = moves_after c g l (h u g t p)
 
 same_lists : (w u : Work) → u.duties ≡ w.duties → u.spans ≡ w.spans → Grows w u
 same_lists w u a b = record { more_duties = λ d q. subst (λ l. d ∈ l) (sym a) q; more_spans = λ t q. subst (λ l. t ∈ l) (sym b) q }
@@ -70,11 +70,11 @@ kept_end f s e x On a h = cond_both (eqb s x) e (f x) (λ z. z ≡ On) (λ p. ab
 kept_end f s e x Last a h = cond_both (eqb s x) e (f x) (λ z. z ≡ Last) (λ p. absurd (unknown_last (sym a ∙ ap f (eqb-true s x p) ∙ h))) (λ p. h)
 
 module _ {S : Setting} where
-  pub moves-stay : (w : Work) → Tidy S w → Moves S w Any (goes w false)
-  moves-stay w t = moves_on (grows_refl w) (less_same w) t tt
+  pub moves_stay : (w : Work) → Tidy S w → Moves S w Any (goes w false)
+  moves_stay w t = moves_on (grows_refl w) (less_same w) t tt
 
-  add-tidy : (d : Duty) (w : Work) → Tidy S w → Lives w.spans d.span → Tidy S (with_duty d w)
-  add-tidy d w t h = record {
+  add_tidy : (d : Duty) (w : Work) → Tidy S w → Lives w.spans d.span → Tidy S (with_duty d w)
+  add_tidy d w t h = record {
     fitted = t.fitted;
     duty_lives = all_snoc (λ c. Lives w.spans c.span) d w.duties t.duty_lives h;
     later_lives = t.later_lives;
@@ -83,14 +83,14 @@ module _ {S : Setting} where
     bodies = λ r q. body_more w (with_duty d w) r (λ c m. ∈_left d m) (λ e m. m) (t.bodies r q);
   }
 
-  pub add-moves : (d : Duty) (w : Work) → Tidy S w → Lives w.spans d.span → Moves S w Any (add d w)
-  add-moves d w t h =
-      cond_both (has_duty d w.duties) (unchanged w) (if_room (ltb (length w.duties) most_duties) (with_duty d w)) (Moves S w Any) (λ e. moves-stay w t)
-      (λ e. moves-room (ltb (length w.duties) most_duties) (with_duty d w)
-      (λ r. moves_on (record { more_duties = λ c q. ∈_left d q; more_spans = λ c q. q }) (less_duty (width S) d w (ltb-true (length w.duties) most_duties r)) (add-tidy d w t h) tt))
+  pub add_moves : (d : Duty) (w : Work) → Tidy S w → Lives w.spans d.span → Moves S w Any (add d w)
+  add_moves d w t h =
+      cond_both (has_duty d w.duties) (unchanged w) (if_room (ltb (length w.duties) most_duties) (with_duty d w)) (Moves S w Any) (λ e. moves_stay w t)
+      (λ e. moves_room (ltb (length w.duties) most_duties) (with_duty d w)
+      (λ r. moves_on (record { more_duties = λ c q. ∈_left d q; more_spans = λ c q. q }) (less_duty (width S) d w (ltb-true (length w.duties) most_duties r)) (add_tidy d w t h) tt))
 
-  carry-tidy : (d : Duty) (w : Work) → Tidy S w → Lives w.spans d.span → w.ends d.span ≡ On → Tidy S (with_later d w)
-  carry-tidy d w t h e = record {
+  carry_tidy : (d : Duty) (w : Work) → Tidy S w → Lives w.spans d.span → w.ends d.span ≡ On → Tidy S (with_later d w)
+  carry_tidy d w t h e = record {
     fitted = t.fitted;
     duty_lives = t.duty_lives;
     later_lives = all_snoc (λ c. Lives w.spans c.span × (w.ends c.span ≡ On)) d w.later t.later_lives (h, e);
@@ -99,15 +99,15 @@ module _ {S : Setting} where
     bodies = t.bodies;
   }
 
-  pub carry-moves : (d : Duty) (w : Work) → Tidy S w → Lives w.spans d.span → w.ends d.span ≡ On → Moves S w (λ u. u.ends d.span ≡ On) (carry d w)
-  carry-moves d w t h e =
+  pub carry_moves : (d : Duty) (w : Work) → Tidy S w → Lives w.spans d.span → w.ends d.span ≡ On → Moves S w (λ u. u.ends d.span ≡ On) (carry d w)
+  carry_moves d w t h e =
       let P : Work → Type 0 = λ u. u.ends d.span ≡ On in
       cond_both (has_duty d w.later) (unchanged w) (if_room (ltb (length w.later) most_duties) (with_later d w)) (Moves S w P) (λ _. moves_on (grows_refl w) (less_same w) t e)
-      (λ _. moves-room (ltb (length w.later) most_duties) (with_later d w)
-      (λ r. moves_on (same_lists w (with_later d w) refl refl) (less_later (width S) d w (ltb-true (length w.later) most_duties r)) (carry-tidy d w t h e) e))
+      (λ _. moves_room (ltb (length w.later) most_duties) (with_later d w)
+      (λ r. moves_on (same_lists w (with_later d w) refl refl) (less_later (width S) d w (ltb-true (length w.later) most_duties r)) (carry_tidy d w t h e) e))
 
-  end-tidy : (e : End) (s : ℕ) (w : Work) → w.ends s ≡ Unknown → Tidy S w → Tidy S (with_end e s w)
-  end-tidy e s w a t = record {
+  end_tidy : (e : End) (s : ℕ) (w : Work) → w.ends s ≡ Unknown → Tidy S w → Tidy S (with_end e s w)
+  end_tidy e s w a t = record {
     fitted = t.fitted;
     duty_lives = t.duty_lives;
     later_lives = λ d q. ((t.later_lives d q).0, kept_end w.ends s e d.span On a (t.later_lives d q).1);
@@ -116,25 +116,25 @@ module _ {S : Setting} where
     bodies = λ r q. body_more w (with_end e s w) r (λ c m. m) (λ c m. kept_end w.ends s e r.serial c a m) (t.bodies r q);
   }
 
-  put-new : (e : End) (s : ℕ) (w : Work) → IsEnded e → w.ends s ≡ Unknown → Tidy S w → Lives w.spans s → EndIs (set_at w.ends s e s) e → Moves S w (λ u. EndIs (u.ends s) e) (goes (with_end e s w) true)
-  put-new e s w i a t l p = moves_on (same_lists w (with_end e s w) refl refl) (less_end (width S) e s w i a l) (end-tidy e s w a t) p
+  put_new : (e : End) (s : ℕ) (w : Work) → IsEnded e → w.ends s ≡ Unknown → Tidy S w → Lives w.spans s → EndIs (set_at w.ends s e s) e → Moves S w (λ u. EndIs (u.ends s) e) (goes (with_end e s w) true)
+  put_new e s w i a t l p = moves_on (same_lists w (with_end e s w) refl refl) (less_end (width S) e s w i a l) (end_tidy e s w a t) p
 
-  put-by-moves : (p : ℕ) (c e : End) (s : ℕ) (w : Work) → w.ends s ≡ c → Tidy S w → Lives w.spans s → Moves S w (λ u. EndIs (u.ends s) e) (put_by p c e s w)
-  put-by-moves p Unknown Unknown s w a t l = moves_on (grows_refl w) (less_same w) t tt
-  put-by-moves p Unknown On s w a t l = put-new On s w tt a t l (set_same w.ends s On)
-  put-by-moves p Unknown Last s w a t l = put-new Last s w tt a t l (set_same w.ends s Last)
-  put-by-moves p On Unknown s w a t l = moves_on (grows_refl w) (less_same w) t tt
-  put-by-moves p On On s w a t l = moves_on (grows_refl w) (less_same w) t a
-  put-by-moves p On Last s w a t l = moves_stop
-  put-by-moves p Last Unknown s w a t l = moves_on (grows_refl w) (less_same w) t tt
-  put-by-moves p Last On s w a t l = moves_stop
-  put-by-moves p Last Last s w a t l = moves_on (grows_refl w) (less_same w) t a
+  put_by_moves : (p : ℕ) (c e : End) (s : ℕ) (w : Work) → w.ends s ≡ c → Tidy S w → Lives w.spans s → Moves S w (λ u. EndIs (u.ends s) e) (put_by p c e s w)
+  put_by_moves p Unknown Unknown s w a t l = moves_on (grows_refl w) (less_same w) t tt
+  put_by_moves p Unknown On s w a t l = put_new On s w tt a t l (set_same w.ends s On)
+  put_by_moves p Unknown Last s w a t l = put_new Last s w tt a t l (set_same w.ends s Last)
+  put_by_moves p On Unknown s w a t l = moves_on (grows_refl w) (less_same w) t tt
+  put_by_moves p On On s w a t l = moves_on (grows_refl w) (less_same w) t a
+  put_by_moves p On Last s w a t l = moves_stop
+  put_by_moves p Last Unknown s w a t l = moves_on (grows_refl w) (less_same w) t tt
+  put_by_moves p Last On s w a t l = moves_stop
+  put_by_moves p Last Last s w a t l = moves_on (grows_refl w) (less_same w) t a
 
-  pub put-moves : (p : ℕ) (e : End) (s : ℕ) (w : Work) → Tidy S w → Lives w.spans s → Moves S w (λ u. EndIs (u.ends s) e) (put p e s w)
-  put-moves p e s w t l = put-by-moves p (w.ends s) e s w refl t l
+  pub put_moves : (p : ℕ) (e : End) (s : ℕ) (w : Work) → Tidy S w → Lives w.spans s → Moves S w (λ u. EndIs (u.ends s) e) (put p e s w)
+  put_moves p e s w t l = put_by_moves p (w.ends s) e s w refl t l
 
-  value-tidy : (x : ℕ) (v : ℤ) (w : Work) → fits S x v ≡ true → Tidy S w → Tidy S (with_value x v w)
-  value-tidy x v w e t = record {
+  value_tidy : (x : ℕ) (v : ℤ) (w : Work) → fits S x v ≡ true → Tidy S w → Tidy S (with_value x v w)
+  value_tidy x v w e t = record {
     fitted = set_all (λ y o. FitSays S y o) w.known x (Some v) e t.fitted;
     duty_lives = t.duty_lives;
     later_lives = t.later_lives;
@@ -143,14 +143,14 @@ module _ {S : Setting} where
     bodies = t.bodies;
   }
 
-  give-by-moves : (p : ℕ) (q : Option ℤ) (x : ℕ) (v : ℤ) (w : Work) → w.known x ≡ q → x < width S → Tidy S w → Moves S w Any (give_by S p q x v w)
-  give-by-moves p None x v w n l t =
+  give_by_moves : (p : ℕ) (q : Option ℤ) (x : ℕ) (v : ℤ) (w : Work) → w.known x ≡ q → x < width S → Tidy S w → Moves S w Any (give_by S p q x v w)
+  give_by_moves p None x v w n l t =
       cond_both (fits S x v) (changed (with_value x v w)) (stops (Contradiction p)) (Moves S w Any)
-      (λ e. moves_on (same_lists w (with_value x v w) refl refl) (less_known (width S) x v w n l) (value-tidy x v w e t) tt) (λ e. moves_stop)
-  give-by-moves p (Some a) x v w n l t = cond_both (same a v) (unchanged w) (stops (Contradiction p)) (Moves S w Any) (λ e. moves-stay w t) (λ e. moves_stop)
+      (λ e. moves_on (same_lists w (with_value x v w) refl refl) (less_known (width S) x v w n l) (value_tidy x v w e t) tt) (λ e. moves_stop)
+  give_by_moves p (Some a) x v w n l t = cond_both (same a v) (unchanged w) (stops (Contradiction p)) (Moves S w Any) (λ e. moves_stay w t) (λ e. moves_stop)
 
-  pub give-moves : (p x : ℕ) (v : ℤ) (w : Work) → x < width S → Tidy S w → Moves S w Any (give S p x v w)
-  give-moves p x v w l t = give-by-moves p (w.known x) x v w refl l t
+  pub give_moves : (p x : ℕ) (v : ℤ) (w : Work) → x < width S → Tidy S w → Moves S w Any (give S p x v w)
+  give_moves p x v w l t = give_by_moves p (w.known x) x v w refl l t
 
 new_grows : (g : Opening) (w : Work) → Grows w (with_span g w)
 new_grows g w = record { more_duties = λ c q. ∈_left _ q; more_spans = λ c q. ∈_left _ q }
@@ -172,28 +172,28 @@ new_body g w h o f =
     (∈_end _ w.duties, ends_so _ g.starts (set_same w.ends w.next g.starts))
 
 module _ {S : Setting} where
-  new-tidy : (g : Opening) (w : Work) → Lives w.spans g.follower.span → Tidy S w → Tidy S (with_span g w)
-  new-tidy g w h t = record {
+  new_tidy : (g : Opening) (w : Work) → Lives w.spans g.follower.span → Tidy S w → Tidy S (with_span g w)
+  new_tidy g w h t = record {
     fitted = t.fitted;
     duty_lives = all_snoc (λ d. Lives (with_span g w).spans d.span) _ w.duties (λ d q. lives_more (new_grows g w) (t.duty_lives d q)) (record { span = _; inside = ∈_end _ w.spans; named = refl });
-    later_lives = λ d q. (lives_more (new_grows g w) (t.later_lives d q).0, old-end d.span (below (t.later_lives d q).0) ∙ (t.later_lives d q).1);
+    later_lives = λ d q. (lives_more (new_grows g w) (t.later_lives d q).0, old_end d.span (below (t.later_lives d q).0) ∙ (t.later_lives d q).1);
     nested = all_snoc (λ r. Nested (with_span g w).spans r.serial r.opening) _ w.spans (λ r q. new_nested g w r.serial r.opening (t.nested r q)) (below h, lives_more (new_grows g w) h);
     young = all_snoc (λ r. r.serial < suc w.next) _ w.spans (λ r q. omega (arith, t.young r q)) (omega arith);
     bodies =
         all_snoc (RunsBody (with_span g w)) _ w.spans
-        (λ r q. body_more w (with_span g w) r (λ d m. ∈_left _ m) (λ e m. subst (λ z. EndIs z e) (sym (old-end r.serial (t.young r q))) m) (t.bodies r q)) (new_body g w);
+        (λ r q. body_more w (with_span g w) r (λ d m. ∈_left _ m) (λ e m. subst (λ z. EndIs z e) (sym (old_end r.serial (t.young r q))) m) (t.bodies r q)) (new_body g w);
   }
     where
       below : {s : ℕ} → Lives w.spans s → s < w.next
       below h = subst (λ z. z < w.next) h.named (t.young h.span h.inside)
 
-      old-end : (s : ℕ) → s < w.next → set_at w.ends w.next g.starts s ≡ w.ends s
-      old-end s l = set_other w.ends w.next g.starts s l
+      old_end : (s : ℕ) → s < w.next → set_at w.ends w.next g.starts s ≡ w.ends s
+      old_end s l = set_other w.ends w.next g.starts s l
 
-  pub open-moves : (g : Opening) (w : Work) → Lives w.spans g.follower.span → Tidy S w → Moves S w Any (open_span g w)
-  open-moves g w h t =
+  pub open_moves : (g : Opening) (w : Work) → Lives w.spans g.follower.span → Tidy S w → Moves S w Any (open_span g w)
+  open_moves g w h t =
       let a : Bool = ltb (length w.spans) most_spans in
       let b : Bool = ltb (length w.duties) most_duties in
-      cond_both (has_opened g w.spans) (unchanged w) (if_room (a && b) (with_span g w)) (Moves S w Any) (λ _. moves-stay w t)
-      (λ _. moves-room (a && b) (with_span g w)
-      (λ r. moves_on (new_grows g w) (less_span (width S) g w t.young (ltb-true (length w.spans) most_spans (and_parts a b r).0)) (new-tidy g w h t) tt))
+      cond_both (has_opened g w.spans) (unchanged w) (if_room (a && b) (with_span g w)) (Moves S w Any) (λ _. moves_stay w t)
+      (λ _. moves_room (a && b) (with_span g w)
+      (λ r. moves_on (new_grows g w) (less_span (width S) g w t.young (ltb-true (length w.spans) most_spans (and_parts a b r).0)) (new_tidy g w h t) tt))

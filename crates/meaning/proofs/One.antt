@@ -23,10 +23,10 @@ settles_quiet (again e s) = settles_quiet s
 
 module _ {S : Setting} {k : ℕ} where
   -- a pass that asks for no more is the outcome
-  ends-here : {w : Work} {o : Outcome} → Settles S k w o → asks (pass S k w) ≡ false → pass S k w ≡ o
-  ends-here (rests e) h = e
-  ends-here (breaks e) h = e
-  ends-here (again e s) h = absurd (true≢false (sym (ap asks e) ∙ h))
+  ends_here : {w : Work} {o : Outcome} → Settles S k w o → asks (pass S k w) ≡ false → pass S k w ≡ o
+  ends_here (rests e) h = e
+  ends_here (breaks e) h = e
+  ends_here (again e s) h = absurd (true≢false (sym (ap asks e) ∙ h))
 
   -- and one that asks is followed
   goes_on : {w : Work} {o : Outcome} → Settles S k w o → (u : Work) → pass S k w ≡ goes u true → Settles S k u o
@@ -34,11 +34,11 @@ module _ {S : Setting} {k : ℕ} where
   goes_on (breaks e) u h = absurd (true≢false (ap asks (sym h ∙ e)))
   goes_on (again {u = v} {o = o} e s) u h = subst (λ z. Settles S k z o) (ap (work_in u) (sym e ∙ h)) s
 
-  pub settles-one : {w : Work} {o r : Outcome} → Settles S k w o → Settles S k w r → o ≡ r
-  settles-one (rests e) t = sym e ∙ ends-here t (ap asks e)
-  settles-one (breaks e) t = sym e ∙ ends-here t (ap asks e)
-  settles-one (again {u = u} e s) t = settles-one s (goes_on t u e)
+  pub settles_one : {w : Work} {o r : Outcome} → Settles S k w o → Settles S k w r → o ≡ r
+  settles_one (rests e) t = sym e ∙ ends_here t (ap asks e)
+  settles_one (breaks e) t = sym e ∙ ends_here t (ap asks e)
+  settles_one (again {u = u} e s) t = settles_one s (goes_on t u e)
 
   -- so a state comes to one step
-  pub steps-one : {w : Work} {s t : Step} → Steps S k w s → Steps S k w t → t ≡ s
-  steps-one a b = sym b.comes ∙ ap (step_of (width S)) (settles-one b.settles a.settles) ∙ a.comes
+  pub steps_one : {w : Work} {s t : Step} → Steps S k w s → Steps S k w t → t ≡ s
+  steps_one a b = sym b.comes ∙ ap (step_of (width S)) (settles_one b.settles a.settles) ∙ a.comes

@@ -4,7 +4,7 @@ use Rattle.sheet.specs.declared.parts.Statement.{Statement}
 use Rattle.sheet.specs.declared.parts.Statement.TheVariants.{True, False, Empty, More, Is, And, If, Next, Always, Halt, Len, Gets, Chop, For, While, Request}
 use Rattle.meaning.specs.declared.parts.Duty.{Duty}
 use Rattle.meaning.specs.Intervals.{Setting, statement_at}
-use Rattle.meaning.specs.Holds.{number_on, rounds_of, Holds, true-holds, empty_holds, more-holds, is-holds, and-holds, then-holds, else-holds, next-holds, always-holds, halt-holds, len_holds, gets-holds, chop-holds, for-holds, while-stops, while-goes, request-holds, Rounds, no-round, one-round}
+use Rattle.meaning.specs.Holds.{number_on, rounds_of, Holds, true_holds, empty_holds, more_holds, is_holds, and_holds, then_holds, else_holds, next_holds, always_holds, halt_holds, len_holds, gets_holds, chop_holds, for_holds, while_stops, while_goes, request_holds, Rounds, no_round, one_round}
 
 pub data Owed (S : Setting) (σ : ℕ → ℕ → ℤ) : ℕ → ℕ → Statement → Option ℤ → Type 0 where
   true_owed : {i j : ℕ} {o : Option ℤ} → Owed S σ i j True o
@@ -38,33 +38,33 @@ module _ {S : Setting} {σ : ℕ → ℕ → ℤ} where
   below_of : {i j e p n : ℕ} → Owed S σ i j (For e p) (Some (pos 0)) → Owed S σ i j (For e p) (Some (negsuc n))
   below_of (for_done h) = for_below h
 
-  some-rounds : {i j p e : ℕ} (c : ℤ) → Owed S σ i j (For e p) (Some (pos (rounds_of c))) → Owed S σ i j (For e p) (Some c)
-  some-rounds (pos n) h = h
-  some-rounds (negsuc n) h = below_of h
+  some_rounds : {i j p e : ℕ} (c : ℤ) → Owed S σ i j (For e p) (Some (pos (rounds_of c))) → Owed S σ i j (For e p) (Some c)
+  some_rounds (pos n) h = h
+  some_rounds (negsuc n) h = below_of h
 
   mutual
     pub owed : {i j : ℕ} {st : Statement} → Holds S σ i j st → Owed S σ i j st None
-    owed true-holds = true_owed
+    owed true_holds = true_owed
     owed (empty_holds h) = empty_owed h
-    owed (more-holds h) = more_owed h
-    owed (is-holds h) = is_owed h
-    owed (and-holds a b) = and_owed (owed a) (owed b)
-    owed (then-holds h a) = then_owed h (owed a)
-    owed (else-holds h a) = else_owed h (owed a)
-    owed (next-holds h a) = next_owed h (owed a)
-    owed (always-holds h) = always_owed (λ k a b. owed (h k a b))
-    owed (halt-holds a b) = halt_owed a b
+    owed (more_holds h) = more_owed h
+    owed (is_holds h) = is_owed h
+    owed (and_holds a b) = and_owed (owed a) (owed b)
+    owed (then_holds h a) = then_owed h (owed a)
+    owed (else_holds h a) = else_owed h (owed a)
+    owed (next_holds h a) = next_owed h (owed a)
+    owed (always_holds h) = always_owed (λ k a b. owed (h k a b))
+    owed (halt_holds a b) = halt_owed a b
     owed (len_holds a b) = len_owed a b
-    owed (gets-holds h) = gets_owed h
-    owed (chop-holds k a b p q) = chop_owed k a b (owed p) (owed q)
-    owed (for-holds {i = i} {j = j} {e = e} r) = for_owed (number_on S σ i j e) refl (some-rounds (number_on S σ i j e) (owed-rounds r e))
-    owed (while-stops a b) = while_done a b
-    owed (while-goes k a b c p q) = while_round k a b c (owed p) (owed q)
-    owed (request-holds h) = request_owed h
+    owed (gets_holds h) = gets_owed h
+    owed (chop_holds k a b p q) = chop_owed k a b (owed p) (owed q)
+    owed (for_holds {i = i} {j = j} {e = e} r) = for_owed (number_on S σ i j e) refl (some_rounds (number_on S σ i j e) (owed_rounds r e))
+    owed (while_stops a b) = while_done a b
+    owed (while_goes k a b c p q) = while_round k a b c (owed p) (owed q)
+    owed (request_holds h) = request_owed h
 
-    owed-rounds : {i j p n : ℕ} → Rounds S σ i j p n → (e : ℕ) → Owed S σ i j (For e p) (Some (pos n))
-    owed-rounds (no-round h) e = for_done h
-    owed-rounds (one-round k a b p r) e = for_round k a b (owed p) (owed-rounds r e)
+    owed_rounds : {i j p n : ℕ} → Rounds S σ i j p n → (e : ℕ) → Owed S σ i j (For e p) (Some (pos n))
+    owed_rounds (no_round h) e = for_done h
+    owed_rounds (one_round k a b p r) e = for_round k a b (owed p) (owed_rounds r e)
 
 -- what a duty with a number asks, where it is a count of rounds
 abbrev Numbered : Setting → (ℕ → ℕ → ℤ) → ℕ → ℕ → Statement → ℤ → Type 0
@@ -90,58 +90,58 @@ Target S σ i j st None = Holds S σ i j st
 Target S σ i j st (Some c) = Numbered S σ i j st c
 
 pub holds : {S : Setting} {σ : ℕ → ℕ → ℤ} {i j : ℕ} {st : Statement} {o : Option ℤ} → Owed S σ i j st o → Target S σ i j st o
-holds (true_owed {o = None}) = true-holds
+holds (true_owed {o = None}) = true_holds
 holds (true_owed {o = Some z}) = tt
 holds (empty_owed {o = None} h) = empty_holds h
 holds (empty_owed {o = Some z} h) = tt
-holds (more_owed {o = None} h) = more-holds h
+holds (more_owed {o = None} h) = more_holds h
 holds (more_owed {o = Some z} h) = tt
-holds (is_owed {o = None} h) = is-holds h
+holds (is_owed {o = None} h) = is_holds h
 holds (is_owed {o = Some z} h) = tt
-holds (and_owed {o = None} a b) = and-holds (holds a) (holds b)
+holds (and_owed {o = None} a b) = and_holds (holds a) (holds b)
 holds (and_owed {o = Some z} a b) = tt
-holds (then_owed {o = None} h a) = then-holds h (holds a)
+holds (then_owed {o = None} h a) = then_holds h (holds a)
 holds (then_owed {o = Some z} h a) = tt
-holds (else_owed {o = None} h a) = else-holds h (holds a)
+holds (else_owed {o = None} h a) = else_holds h (holds a)
 holds (else_owed {o = Some z} h a) = tt
-holds (next_owed {o = None} h a) = next-holds h (holds a)
+holds (next_owed {o = None} h a) = next_holds h (holds a)
 holds (next_owed {o = Some z} h a) = tt
-holds (always_owed {o = None} h) = always-holds (λ k a b. holds (h k a b))
+holds (always_owed {o = None} h) = always_holds (λ k a b. holds (h k a b))
 holds (always_owed {o = Some z} h) = tt
-holds (halt_owed {o = None} a b) = halt-holds a b
+holds (halt_owed {o = None} a b) = halt_holds a b
 holds (halt_owed {o = Some z} a b) = tt
-holds (chop_owed {o = None} k a b p q) = chop-holds k a b (holds p) (holds q)
+holds (chop_owed {o = None} k a b p q) = chop_holds k a b (holds p) (holds q)
 holds (chop_owed {o = Some z} k a b p q) = tt
-holds (while_done {o = None} a b) = while-stops a b
+holds (while_done {o = None} a b) = while_stops a b
 holds (while_done {o = Some z} a b) = tt
-holds (while_round {o = None} k a b c p q) = while-goes k a b c (holds p) (holds q)
+holds (while_round {o = None} k a b c p q) = while_goes k a b c (holds p) (holds q)
 holds (while_round {o = Some z} k a b c p q) = tt
-holds (request_owed {o = None} h) = request-holds h
+holds (request_owed {o = None} h) = request_holds h
 holds (request_owed {o = Some z} h) = tt
 holds (len_owed a b) = len_holds a b
 holds (len_left h) = tt
-holds (gets_owed h) = gets-holds h
+holds (gets_owed h) = gets_holds h
 holds (gets_value h) = tt
-holds {S} {σ} (for_owed {i = i} {j = j} {p = p} c h r) = for-holds (subst (λ z. Rounds S σ i j p (rounds_of z)) (sym h) (holds r))
-holds (for_below h) = no-round h
-holds (for_done h) = no-round h
-holds (for_round k a b p r) = one-round k a b (holds p) (holds r)
+holds {S} {σ} (for_owed {i = i} {j = j} {p = p} c h r) = for_holds (subst (λ z. Rounds S σ i j p (rounds_of z)) (sym h) (holds r))
+holds (for_below h) = no_round h
+holds (for_done h) = no_round h
+holds (for_round k a b p r) = one_round k a b (holds p) (holds r)
 
 pub meaning : {S : Setting} {σ : ℕ → ℕ → ℤ} {i j : ℕ} {st : Statement} → Owed S σ i j st None ↔ Holds S σ i j st
 meaning = ((λ h. holds h), (λ h. owed h))
 
 module _ {S : Setting} {σ : ℕ → ℕ → ℤ} {i j : ℕ} where
-  pub always-inv : {p : ℕ} {o : Option ℤ} → Owed S σ i j (Always p) o → (k : ℕ) → i ≤ k → k ≤ j → Owed S σ k j (statement_at S p) None
-  always-inv (always_owed h) = h
+  pub always_inv : {p : ℕ} {o : Option ℤ} → Owed S σ i j (Always p) o → (k : ℕ) → i ≤ k → k ≤ j → Owed S σ k j (statement_at S p) None
+  always_inv (always_owed h) = h
 
-  pub halt-inv : {e : ℕ} {o : Option ℤ} → Owed S σ i j (Halt e) o → (number_on S σ j j e ≢ pos 0) × ((k : ℕ) → i ≤ k → k < j → number_on S σ k j e ≡ pos 0)
-  halt-inv (halt_owed a b) = (a, b)
+  pub halt_inv : {e : ℕ} {o : Option ℤ} → Owed S σ i j (Halt e) o → (number_on S σ j j e ≢ pos 0) × ((k : ℕ) → i ≤ k → k < j → number_on S σ k j e ≡ pos 0)
+  halt_inv (halt_owed a b) = (a, b)
 
-  pub len-inv : {e n : ℕ} → Owed S σ i j (Len e) (Some (pos n)) → j ≡ i + n
-  len-inv (len_left h) = h
+  pub len_inv : {e n : ℕ} → Owed S σ i j (Len e) (Some (pos n)) → j ≡ i + n
+  len_inv (len_left h) = h
 
-  pub gets-inv : {x e : ℕ} → Owed S σ i j (Gets x e) None → (k : ℕ) → i ≤ k → k < j → σ (suc k) x ≡ number_on S σ k j e
-  gets-inv (gets_owed h) = h
+  pub gets_inv : {x e : ℕ} → Owed S σ i j (Gets x e) None → (k : ℕ) → i ≤ k → k < j → σ (suc k) x ≡ number_on S σ k j e
+  gets_inv (gets_owed h) = h
 
-  pub gets-value-inv : {x e : ℕ} {v : ℤ} → Owed S σ i j (Gets x e) (Some v) → σ i x ≡ v
-  gets-value-inv (gets_value h) = h
+  pub gets_value_inv : {x e : ℕ} {v : ℤ} → Owed S σ i j (Gets x e) (Some v) → σ i x ≡ v
+  gets_value_inv (gets_value h) = h

@@ -33,8 +33,8 @@ module _ (S : Setting) (r : List (List ℤ)) (w : Work) (s : Step) (B : Started 
   abbrev more : List (List ℤ)
   more = r ++ (x ∷ [])
 
-  more-wide : (i : ℕ) → i < length more → length (get_or more i []) ≡ width S
-  more-wide i h = by (ℕ_discrete i (length r))
+  more_wide : (i : ℕ) → i < length more → length (get_or more i []) ≡ width S
+  more_wide i h = by (ℕ_discrete i (length r))
     where
       by : Dec (i ≡ length r) → length (get_or more i []) ≡ width S
       by (yes e) = ap (λ z. length (get_or more z [])) e ∙ ap length (get_d_end r x []) ∙ ap length (sym same-state) ∙ state_wide (width S) T.work
@@ -56,7 +56,7 @@ started {S} (onward {r = r} {w = w} {u = u} {x = x} o q) =
     let T : Steady S (length r) w (recorded x u) = steady S (length r) w (recorded x u) q (λ h. h) in
     let B : Started S r w = started o in
     record {
-      wide = more-wide S r w (recorded x u) B T x T.state;
+      wide = more_wide S r w (recorded x u) B T x T.state;
       begun =
           subst₂ (λ k v. Begins S (value_in (r ++ (x ∷ []))) k v) (sym (longer r x)) T.after
           (one_on (before S r w (recorded x u) B T x T.state) (this S r w (recorded x u) B T x T.state) T.over);
@@ -67,7 +67,7 @@ completed {S} (finish {r = r} {w = w} {x = x} o q) =
     let T : Steady S (length r) w (finished x) = steady S (length r) w (finished x) q (λ h. h) in
     let B : Started S r w = started o in
     record {
-      wide = more-wide S r w (finished x) B T x T.state;
+      wide = more_wide S r w (finished x) B T x T.state;
       count = length r;
       counted = longer r x;
       work = w;

@@ -17,54 +17,54 @@ use Rattle.meaning.specs.Order.{◌∈◌, IsEnded, Later}
 use Rattle.meaning.proofs.Lists.{∈_end, set_same}
 use Rattle.meaning.proofs.Tests.{same_true, has_in, Stands, has_opened_says, truth_yes, truth_no, zero_or_not}
 use Rattle.meaning.proofs.Rest.{LenRest, Shows}
-use Rattle.meaning.proofs.Kept.{OfWork, kept_then, kept-truth, kept_on, kept-len}
-use Rattle.meaning.proofs.Later.{later_refl, later_duty, later_span, later-kept, end_stays, shows_later}
+use Rattle.meaning.proofs.Kept.{OfWork, kept_then, kept_truth, kept_on, kept_len}
+use Rattle.meaning.proofs.Later.{later_refl, later_duty, later_span, later_kept, end_stays, shows_later}
 use Rattle.meaning.proofs.Spent.{ForSpent, HaltSpent, WhileSpent, Spent}
 
 stands_later : {w u : Work} {g : Opening} → Later w u → Stands g w.spans → Stands g u.spans
 stands_later h s = record { span = s.span; inside = later_span h s.inside; opened = s.opened; newly = s.newly }
 
 module _ (S : Setting) (k : ℕ) (d : Duty) (w u : Work) (h : Later w u) (l : d.span < w.next) where
-  last-stays : w.ends d.span ≡ Last → u.ends d.span ≡ Last
-  last-stays e = end_stays d.span Last h l e tt
+  last_stays : w.ends d.span ≡ Last → u.ends d.span ≡ Last
+  last_stays e = end_stays d.span Last h l e tt
 
-  on-stays : w.ends d.span ≡ On → u.ends d.span ≡ On
-  on-stays e = end_stays d.span On h l e tt
+  on_stays : w.ends d.span ≡ On → u.ends d.span ≡ On
+  on_stays e = end_stays d.span On h l e tt
 
-  both-stay : {c : Duty} → (w.ends d.span ≡ On) × (c ∈ w.later) → (u.ends d.span ≡ On) × (c ∈ u.later)
-  both-stay {c} p = (on-stays p.0, h.carried c p.1)
+  both_stay : {c : Duty} → (w.ends d.span ≡ On) × (c ∈ w.later) → (u.ends d.span ≡ On) × (c ∈ u.later)
+  both_stay {c} p = (on_stays p.0, h.carried c p.1)
 
-  len-stays : (c : ℤ) → LenRest d w c → LenRest d u c
-  len-stays (pos zero) p = last-stays p
-  len-stays (pos (suc n)) p = both-stay p
-  len-stays (negsuc n) p = p
+  len_stays : (c : ℤ) → LenRest d w c → LenRest d u c
+  len_stays (pos zero) p = last_stays p
+  len_stays (pos (suc n)) p = both_stay p
+  len_stays (negsuc n) p = p
 
-  for-stays : (p : ℕ) (c : ℤ) → ForSpent d w p c → ForSpent d u p c
-  for-stays p (pos zero) q = last-stays q
-  for-stays p (pos (suc n)) q = stands_later h q
-  for-stays p (negsuc n) q = last-stays q
+  for_stays : (p : ℕ) (c : ℤ) → ForSpent d w p c → ForSpent d u p c
+  for_stays p (pos zero) q = last_stays q
+  for_stays p (pos (suc n)) q = stands_later h q
+  for_stays p (negsuc n) q = last_stays q
 
   -- what is spent stays spent
-  pub spent-later : (st : Statement) (o : Option ℤ) → Spent S k d w st o → Spent S k d u st o
-  spent-later True o p = tt
-  spent-later False o p = p
-  spent-later Empty o p = last-stays p
-  spent-later More o p = on-stays p
-  spent-later (Is x e) o p = (p.0, shows_later S d w u e p.0 h l p.1, h.knowns x p.0 p.2)
-  spent-later (And a b) o p = (later_duty h p.0, later_duty h p.1)
-  spent-later (If e a b) o p = (p.0, shows_later S d w u e p.0 h l p.1, later_duty h p.2)
-  spent-later (Next a) o p = both-stay p
-  spent-later (Always a) o p = p
-  spent-later (Halt e) o p = (p.0, shows_later S d w u e p.0 h l p.1, ((λ n. last-stays (p.2.0 n)), (λ z. both-stay (p.2.1 z))))
-  spent-later (Len e) None p = (p.0, shows_later S d w u e p.0 h l p.1, len-stays p.0 p.2)
-  spent-later (Len e) (Some c) p = len-stays c p
-  spent-later (Gets x e) None p = (on-stays p.0, (p.1.0, shows_later S d w u e p.1.0 h l p.1.1, h.carried _ p.1.2, h.carried d p.1.3))
-  spent-later (Gets x e) (Some v) p = h.knowns x v p
-  spent-later (Chop a b) o p = stands_later h p
-  spent-later (For e a) None p = (p.0, shows_later S d w u e p.0 h l p.1, later_duty h p.2)
-  spent-later (For e a) (Some c) p = for-stays a c p
-  spent-later (While e a) o p = (p.0, shows_later S d w u e p.0 h l p.1, ((λ n. stands_later h (p.2.0 n)), (λ z. last-stays (p.2.1 z))))
-  spent-later (Request x) o p = (p.0, p.1, h.knowns x p.0 p.2)
+  pub spent_later : (st : Statement) (o : Option ℤ) → Spent S k d w st o → Spent S k d u st o
+  spent_later True o p = tt
+  spent_later False o p = p
+  spent_later Empty o p = last_stays p
+  spent_later More o p = on_stays p
+  spent_later (Is x e) o p = (p.0, shows_later S d w u e p.0 h l p.1, h.knowns x p.0 p.2)
+  spent_later (And a b) o p = (later_duty h p.0, later_duty h p.1)
+  spent_later (If e a b) o p = (p.0, shows_later S d w u e p.0 h l p.1, later_duty h p.2)
+  spent_later (Next a) o p = both_stay p
+  spent_later (Always a) o p = p
+  spent_later (Halt e) o p = (p.0, shows_later S d w u e p.0 h l p.1, ((λ n. last_stays (p.2.0 n)), (λ z. both_stay (p.2.1 z))))
+  spent_later (Len e) None p = (p.0, shows_later S d w u e p.0 h l p.1, len_stays p.0 p.2)
+  spent_later (Len e) (Some c) p = len_stays c p
+  spent_later (Gets x e) None p = (on_stays p.0, (p.1.0, shows_later S d w u e p.1.0 h l p.1.1, h.carried _ p.1.2, h.carried d p.1.3))
+  spent_later (Gets x e) (Some v) p = h.knowns x v p
+  spent_later (Chop a b) o p = stands_later h p
+  spent_later (For e a) None p = (p.0, shows_later S d w u e p.0 h l p.1, later_duty h p.2)
+  spent_later (For e a) (Some c) p = for_stays a c p
+  spent_later (While e a) o p = (p.0, shows_later S d w u e p.0 h l p.1, ((λ n. stands_later h (p.2.0 n)), (λ z. last_stays (p.2.1 z))))
+  spent_later (Request x) o p = (p.0, p.1, h.knowns x p.0 p.2)
 
 -- after it is done, a thing is so
 pub add_does : (d : Duty) (w : Work) → OfWork (λ u. d ∈ u.duties) (add d w)
@@ -180,85 +180,85 @@ module _ (S : Setting) (k : ℕ) (d : Duty) (w : Work) (l : d.span < w.next) whe
   with_number : (e : ℕ) (v : ℤ) (P Q : Work → Type 0) (o : Outcome) → Shows S d w e v → OfWork (Later w) o → OfWork P o → ((u : Work) → Shows S d u e v → P u → Q u) → OfWork Q o
   with_number e v P Q o s h p f = of_more (λ u. Later w u × P u) Q o (λ u r. f u (shows_later S d w u e v r.0 l s) r.1) (of_both (Later w) P o h p)
 
-  on-does : (c : Duty) → OfWork (λ u. (u.ends d.span ≡ On) × (c ∈ u.later)) (and_then (put d.statement On d.span w) (carry c))
-  on-does c =
+  on_does : (c : Duty) → OfWork (λ u. (u.ends d.span ≡ On) × (c ∈ u.later)) (and_then (put d.statement On d.span w) (carry c))
+  on_does c =
       of_then (λ u. (u.ends d.span ≡ On) × (d.span < u.next)) (λ u. c ∈ u.later) (λ u. (u.ends d.span ≡ On) × (c ∈ u.later)) (put d.statement On d.span w) (carry c)
       (of_more (λ u. Later w u × (u.ends d.span ≡ On)) (λ u. (u.ends d.span ≡ On) × (d.span < u.next)) (put d.statement On d.span w) (λ u r. (r.1, omega (arith, l, r.0.serials)))
-      (of_both (Later w) (λ u. u.ends d.span ≡ On) (put d.statement On d.span w) ((later-kept S w).puts d.statement On d.span w (later_refl w)) (put_does d.statement On d.span w tt)))
-      (λ u h. carry_does c u) (λ u v h n q. (end_stays d.span On n h.1 h.0 tt, q)) (λ u. (later-kept S u).carries c u (later_refl u))
+      (of_both (Later w) (λ u. u.ends d.span ≡ On) (put d.statement On d.span w) ((later_kept S w).puts d.statement On d.span w (later_refl w)) (put_does d.statement On d.span w tt)))
+      (λ u h. carry_does c u) (λ u v h n q. (end_stays d.span On n h.1 h.0 tt, q)) (λ u. (later_kept S u).carries c u (later_refl u))
 
-  len-does : (c : ℤ) → OfWork (λ u. LenRest d u c) (len_rule d c w)
-  len-does (pos zero) = put_does d.statement Last d.span w tt
-  len-does (pos (suc n)) = on-does (numbered d.statement (pos n) d.span)
-  len-does (negsuc n) = tt
+  len_does : (c : ℤ) → OfWork (λ u. LenRest d u c) (len_rule d c w)
+  len_does (pos zero) = put_does d.statement Last d.span w tt
+  len_does (pos (suc n)) = on_does (numbered d.statement (pos n) d.span)
+  len_does (negsuc n) = tt
 
-  for-does : (p : ℕ) (c : ℤ) → OfWork (λ u. ForSpent d u p c) (for_rule d p c w)
-  for-does p (pos zero) = put_does d.statement Last d.span w tt
-  for-does p (pos (suc n)) = open_does (for_opening d p n) w
-  for-does p (negsuc n) = put_does d.statement Last d.span w tt
+  for_does : (p : ℕ) (c : ℤ) → OfWork (λ u. ForSpent d u p c) (for_rule d p c w)
+  for_does p (pos zero) = put_does d.statement Last d.span w tt
+  for_does p (pos (suc n)) = open_does (for_opening d p n) w
+  for_does p (negsuc n) = put_does d.statement Last d.span w tt
 
-  halt-does : (v : ℤ) → OfWork (λ u. HaltSpent d u v) (halt_rule d v w)
-  halt-does v =
+  halt_does : (v : ℤ) → OfWork (λ u. HaltSpent d u v) (halt_rule d v w)
+  halt_does v =
       of_truth (λ u. HaltSpent d u v) v (put d.statement Last d.span w) (and_then (put d.statement On d.span w) (carry d))
       (λ n. of_more (λ u. u.ends d.span ≡ Last) (λ u. HaltSpent d u v) (put d.statement Last d.span w) (λ u e. ((λ _. e), (λ z. absurd (n z)))) (put_does d.statement Last d.span w tt))
-      (λ z. of_more (λ u. (u.ends d.span ≡ On) × (d ∈ u.later)) (λ u. HaltSpent d u v) (and_then (put d.statement On d.span w) (carry d)) (λ u e. ((λ n. absurd (n z)), (λ _. e))) (on-does d))
+      (λ z. of_more (λ u. (u.ends d.span ≡ On) × (d ∈ u.later)) (λ u. HaltSpent d u v) (and_then (put d.statement On d.span w) (carry d)) (λ u e. ((λ n. absurd (n z)), (λ _. e))) (on_does d))
 
-  while-does : (p : ℕ) (v : ℤ) → OfWork (λ u. WhileSpent d u p v) (while_rule d p v w)
-  while-does p v =
+  while_does : (p : ℕ) (v : ℤ) → OfWork (λ u. WhileSpent d u p v) (while_rule d p v w)
+  while_does p v =
       of_truth (λ u. WhileSpent d u p v) v (open_span (while_opening d p) w) (put d.statement Last d.span w)
       (λ n. of_more (λ u. Stands (while_opening d p) u.spans) (λ u. WhileSpent d u p v) (open_span (while_opening d p) w) (λ u e. ((λ _. e), (λ z. absurd (n z)))) (open_does (while_opening d p) w))
       (λ z. of_more (λ u. u.ends d.span ≡ Last) (λ u. WhileSpent d u p v) (put d.statement Last d.span w) (λ u e. ((λ n. absurd (n z)), (λ _. e))) (put_does d.statement Last d.span w tt))
 
-  gets-does : (v : ℤ) → OfWork (λ u. (numbered d.statement v d.span ∈ u.later) × (d ∈ u.later)) (gets_rule d v w)
-  gets-does v =
+  gets_does : (v : ℤ) → OfWork (λ u. (numbered d.statement v d.span ∈ u.later) × (d ∈ u.later)) (gets_rule d v w)
+  gets_does v =
       of_then (λ u. numbered d.statement v d.span ∈ u.later) (λ u. d ∈ u.later) (λ u. (numbered d.statement v d.span ∈ u.later) × (d ∈ u.later)) (carry (numbered d.statement v d.span) w) (carry d)
-      (carry_does (numbered d.statement v d.span) w) (λ u h. carry_does d u) (λ u z h n q. (n.carried _ h, q)) (λ u. (later-kept S u).carries d u (later_refl u))
+      (carry_does (numbered d.statement v d.span) w) (λ u h. carry_does d u) (λ u z h n q. (n.carried _ h, q)) (λ u. (later_kept S u).carries d u (later_refl u))
 
-  gets-change : (x e : ℕ) (c : End) → w.ends d.span ≡ c → OnChange (λ u. Spent S k d u (Gets x e) None) (when_on c (once_known (known_for S w d e) (gets_rule d)) w)
-  gets-change x e Unknown n = tt
-  gets-change x e On n =
+  gets_change : (x e : ℕ) (c : End) → w.ends d.span ≡ c → OnChange (λ u. Spent S k d u (Gets x e) None) (when_on c (once_known (known_for S w d e) (gets_rule d)) w)
+  gets_change x e Unknown n = tt
+  gets_change x e On n =
       once_change (λ u. Spent S k d u (Gets x e) None) (known_for S w d e) (gets_rule d) w
       (λ v s. of_more (λ u. Later w u × ((numbered d.statement v d.span ∈ u.later) × (d ∈ u.later))) (λ u. Spent S k d u (Gets x e) None) (gets_rule d v w)
       (λ u r. (end_stays d.span On r.0 l n tt, (v, shows_later S d w u e v r.0 l s, r.1.0, r.1.1)))
       (of_both (Later w) (λ u. (numbered d.statement v d.span ∈ u.later) × (d ∈ u.later)) (gets_rule d v w)
-      (kept_then S (Later w) (later-kept S w) (carry (numbered d.statement v d.span) w) (carry d) ((later-kept S w).carries (numbered d.statement v d.span) w (later_refl w)) ((later-kept S w).carries d)) (gets-does v)))
-  gets-change x e Last n = tt
+      (kept_then S (Later w) (later_kept S w) (carry (numbered d.statement v d.span) w) (carry d) ((later_kept S w).carries (numbered d.statement v d.span) w (later_refl w)) ((later_kept S w).carries d)) (gets_does v)))
+  gets_change x e Last n = tt
 
   -- a visit that changes something spends its duty, unless that is an `always`
-  pub rule-spends : (st : Statement) (o : Option ℤ) → (Lasting st → ⊥) → OnChange (λ u. Spent S k d u st o) (rule S k st o d w)
-  rule-spends True o n = tt
-  rule-spends False o n = tt
-  rule-spends Empty o n = changed_so _ (put d.statement Last d.span w) (put_does d.statement Last d.span w tt)
-  rule-spends More o n = changed_so _ (put d.statement On d.span w) (put_does d.statement On d.span w tt)
-  rule-spends (Is x e) o n =
+  pub rule_spends : (st : Statement) (o : Option ℤ) → (Lasting st → ⊥) → OnChange (λ u. Spent S k d u st o) (rule S k st o d w)
+  rule_spends True o n = tt
+  rule_spends False o n = tt
+  rule_spends Empty o n = changed_so _ (put d.statement Last d.span w) (put_does d.statement Last d.span w tt)
+  rule_spends More o n = changed_so _ (put d.statement On d.span w) (put_does d.statement On d.span w tt)
+  rule_spends (Is x e) o n =
       once_change _ (known_for S w d e) (give S d.statement x) w
-      (λ v s. with_number e v (λ u. u.known x ≡ Some v) (λ u. Spent S k d u (Is x e) o) (give S d.statement x v w) s ((later-kept S w).gives d.statement x v w (later_refl w)) (give_does S d.statement x v w) (λ u t q. (v, t, q)))
-  rule-spends (And p q) o n =
+      (λ v s. with_number e v (λ u. u.known x ≡ Some v) (λ u. Spent S k d u (Is x e) o) (give S d.statement x v w) s ((later_kept S w).gives d.statement x v w (later_refl w)) (give_does S d.statement x v w) (λ u t q. (v, t, q)))
+  rule_spends (And p q) o n =
       changed_so _ (and_then (add (plain p d.span) w) (add (plain q d.span)))
       (of_then (λ u. plain p d.span ∈ u.duties) (λ u. plain q d.span ∈ u.duties) (λ u. Spent S k d u (And p q) o) (add (plain p d.span) w) (add (plain q d.span))
-      (add_does (plain p d.span) w) (λ u h. add_does (plain q d.span) u) (λ u v h m r. (later_duty m h, r)) (λ u. (later-kept S u).adds (plain q d.span) u (later_refl u)))
-  rule-spends (If e p q) o n =
+      (add_does (plain p d.span) w) (λ u h. add_does (plain q d.span) u) (λ u v h m r. (later_duty m h, r)) (λ u. (later_kept S u).adds (plain q d.span) u (later_refl u)))
+  rule_spends (If e p q) o n =
       once_change _ (known_for S w d e) (λ v. add (plain (cond (truth v) p q) d.span)) w
-      (λ v s. let c : Duty = plain (cond (truth v) p q) d.span in with_number e v (λ u. c ∈ u.duties) (λ u. Spent S k d u (If e p q) o) (add c w) s ((later-kept S w).adds c w (later_refl w)) (add_does c w) (λ u t r. (v, t, r)))
-  rule-spends (Next p) o n = changed_so _ (and_then (put d.statement On d.span w) (carry (plain p d.span))) (on-does (plain p d.span))
-  rule-spends (Always p) o n = absurd (n tt)
-  rule-spends (Halt e) o n =
+      (λ v s. let c : Duty = plain (cond (truth v) p q) d.span in with_number e v (λ u. c ∈ u.duties) (λ u. Spent S k d u (If e p q) o) (add c w) s ((later_kept S w).adds c w (later_refl w)) (add_does c w) (λ u t r. (v, t, r)))
+  rule_spends (Next p) o n = changed_so _ (and_then (put d.statement On d.span w) (carry (plain p d.span))) (on_does (plain p d.span))
+  rule_spends (Always p) o n = absurd (n tt)
+  rule_spends (Halt e) o n =
       once_change _ (known_for S w d e) (halt_rule d) w
       (λ v s. with_number e v (λ u. HaltSpent d u v) (λ u. Spent S k d u (Halt e) o) (halt_rule d v w) s
-      (kept-truth S (Later w) (later-kept S w) (truth v) (put d.statement Last d.span w) (and_then (put d.statement On d.span w) (carry d)) ((later-kept S w).puts d.statement Last d.span w (later_refl w)) (kept_on S (Later w) (later-kept S w) d.statement d.span d w (later_refl w))) (halt-does v) (λ u t r. (v, t, r)))
-  rule-spends (Len e) None n =
-      once_change _ (known_for S w d e) (len_rule d) w (λ v s. with_number e v (λ u. LenRest d u v) (λ u. Spent S k d u (Len e) None) (len_rule d v w) s (kept-len S (Later w) (later-kept S w) d v w (later_refl w)) (len-does v) (λ u t r. (v, t, r)))
-  rule-spends (Len e) (Some c) n = changed_so _ (len_rule d c w) (len-does c)
-  rule-spends (Gets x e) None n = gets-change x e (w.ends d.span) refl
-  rule-spends (Gets x e) (Some v) n = changed_so _ (give S d.statement x v w) (give_does S d.statement x v w)
-  rule-spends (Chop p q) o n = changed_so _ (open_span (chop_opening d p q) w) (open_does (chop_opening d p q) w)
-  rule-spends (For e p) None n =
+      (kept_truth S (Later w) (later_kept S w) (truth v) (put d.statement Last d.span w) (and_then (put d.statement On d.span w) (carry d)) ((later_kept S w).puts d.statement Last d.span w (later_refl w)) (kept_on S (Later w) (later_kept S w) d.statement d.span d w (later_refl w))) (halt_does v) (λ u t r. (v, t, r)))
+  rule_spends (Len e) None n =
+      once_change _ (known_for S w d e) (len_rule d) w (λ v s. with_number e v (λ u. LenRest d u v) (λ u. Spent S k d u (Len e) None) (len_rule d v w) s (kept_len S (Later w) (later_kept S w) d v w (later_refl w)) (len_does v) (λ u t r. (v, t, r)))
+  rule_spends (Len e) (Some c) n = changed_so _ (len_rule d c w) (len_does c)
+  rule_spends (Gets x e) None n = gets_change x e (w.ends d.span) refl
+  rule_spends (Gets x e) (Some v) n = changed_so _ (give S d.statement x v w) (give_does S d.statement x v w)
+  rule_spends (Chop p q) o n = changed_so _ (open_span (chop_opening d p q) w) (open_does (chop_opening d p q) w)
+  rule_spends (For e p) None n =
       once_change _ (known_for S w d e) (λ c. add (numbered d.statement c d.span)) w
-      (λ v s. let c : Duty = numbered d.statement v d.span in with_number e v (λ u. c ∈ u.duties) (λ u. Spent S k d u (For e p) None) (add c w) s ((later-kept S w).adds c w (later_refl w)) (add_does c w) (λ u t r. (v, t, r)))
-  rule-spends (For e p) (Some c) n = changed_so _ (for_rule d p c w) (for-does p c)
-  rule-spends (While e p) o n =
+      (λ v s. let c : Duty = numbered d.statement v d.span in with_number e v (λ u. c ∈ u.duties) (λ u. Spent S k d u (For e p) None) (add c w) s ((later_kept S w).adds c w (later_refl w)) (add_does c w) (λ u t r. (v, t, r)))
+  rule_spends (For e p) (Some c) n = changed_so _ (for_rule d p c w) (for_does p c)
+  rule_spends (While e p) o n =
       once_change _ (known_for S w d e) (while_rule d p) w
       (λ v s. with_number e v (λ u. WhileSpent d u p v) (λ u. Spent S k d u (While e p) o) (while_rule d p v w) s
-      (kept-truth S (Later w) (later-kept S w) (truth v) (open_span (while_opening d p) w) (put d.statement Last d.span w) ((later-kept S w).opens (while_opening d p) w (later_refl w)) ((later-kept S w).puts d.statement Last d.span w (later_refl w))) (while-does p v) (λ u t r. (v, t, r)))
-  rule-spends (Request x) o n =
+      (kept_truth S (Later w) (later_kept S w) (truth v) (open_span (while_opening d p) w) (put d.statement Last d.span w) ((later_kept S w).opens (while_opening d p) w (later_refl w)) ((later_kept S w).puts d.statement Last d.span w (later_refl w))) (while_does p v) (λ u t r. (v, t, r)))
+  rule_spends (Request x) o n =
       once_change _ (S.readings x k) (give S d.statement x) w (λ v s. of_more (λ u. u.known x ≡ Some v) (λ u. Spent S k d u (Request x) o) (give S d.statement x v w) (λ u r. (v, s, r)) (give_does S d.statement x v w))

@@ -21,11 +21,11 @@ use Rattle.meaning.specs.Laws.{SettlingEnds, FinishedIsTheOne, OpenBeginsAll, Co
 use Rattle.meaning.specs.Order.{FitSays}
 use Rattle.meaning.proofs.Owed.{Owed, owed, holds}
 use Rattle.meaning.proofs.Known.{IsGiven}
-use Rattle.meaning.proofs.Grown.{settles-total}
+use Rattle.meaning.proofs.Grown.{settles_total}
 use Rattle.meaning.proofs.Begun.{Rows, Begins, at_first, one_on}
-use Rattle.meaning.proofs.Fore.{Fore, Fits, fore, contradiction-refutes, ends_same}
-use Rattle.meaning.proofs.Finish.{begins-tidy, row-rests, ends-hold}
-use Rattle.meaning.proofs.One.{steps-one}
+use Rattle.meaning.proofs.Fore.{Fore, Fits, fore, contradiction_refutes, ends_same}
+use Rattle.meaning.proofs.Finish.{begins_tidy, row_rests, ends_hold}
+use Rattle.meaning.proofs.One.{steps_one}
 use Rattle.meaning.proofs.Records.{Started, CompleteRun, started, completed}
 
 -- every recorded number is in its range
@@ -34,8 +34,8 @@ fits_of S x None r f h g = absurd g
 fits_of S x (Some v) r f h g = subst (λ (z : ℤ). fits S x z ≡ true) h f
 
 module _ (S : Setting) (L : Limits S.sheet) where
-  row-legal : {ρ : ℕ → ℕ → ℤ} {k : ℕ} {w u : Work} → Begins S ρ k w → Rows S ρ k w u → (x : ℕ) → x < width S → fits S x (ρ k x) ≡ true
-  row-legal {ρ} {k} {w} {u} b r x h = fits_of S x (u.known x) (ρ k x) ((row-rests S L b r).tidy.fitted x) (r.values x h) (r.complete.all_given x h)
+  row_legal : {ρ : ℕ → ℕ → ℤ} {k : ℕ} {w u : Work} → Begins S ρ k w → Rows S ρ k w u → (x : ℕ) → x < width S → fits S x (ρ k x) ≡ true
+  row_legal {ρ} {k} {w} {u} b r x h = fits_of S x (u.known x) (ρ k x) ((row_rests S L b r).tidy.fitted x) (r.values x h) (r.complete.all_given x h)
 
   one_more : (ρ : ℕ → ℕ → ℤ) (k : ℕ) → ((i : ℕ) → i < k → (x : ℕ) → x < width S → fits S x (ρ i x) ≡ true) → ((x : ℕ) → x < width S → fits S x (ρ k x) ≡ true) → (i : ℕ) → i < suc k → (x : ℕ) → x < width S → fits S x (ρ i x) ≡ true
   one_more ρ k a b i h x l = by (ℕ_discrete i k)
@@ -44,9 +44,9 @@ module _ (S : Setting) (L : Limits S.sheet) where
       by (yes e) = subst (λ j. fits S x (ρ j x) ≡ true) (sym e) (b x l)
       by (no q) = a i (omega arith) x l
 
-  begins-legal : {ρ : ℕ → ℕ → ℤ} {k : ℕ} {w : Work} → Begins S ρ k w → (i : ℕ) → i < k → (x : ℕ) → x < width S → fits S x (ρ i x) ≡ true
-  begins-legal at_first i h x l = absurd (omega arith)
-  begins-legal {ρ} (one_on {k = k} b r o) i h x l = one_more ρ k (begins-legal b) (row-legal b r) i h x l
+  begins_legal : {ρ : ℕ → ℕ → ℤ} {k : ℕ} {w : Work} → Begins S ρ k w → (i : ℕ) → i < k → (x : ℕ) → x < width S → fits S x (ρ i x) ≡ true
+  begins_legal at_first i h x l = absurd (omega arith)
+  begins_legal {ρ} (one_on {k = k} b r o) i h x l = one_more ρ k (begins_legal b) (row_legal b r) i h x l
 
   -- a state past the variables is 0, which fits what stands for a variable that is not there
   past_fits : (l : List (List ℤ)) (i x : ℕ) → length (get_or l i []) ≡ width S → width S ≤ x → fits S x (value_in l i x) ≡ true
@@ -62,28 +62,28 @@ module _ (S : Setting) (L : Limits S.sheet) where
           ⊎_elim (λ (a : x < width S). h.interval.each.ranged i n x a) (λ (a : width S ≤ x). past_fits l i x (h.interval.each.wide i n) a) (cases_lt x (width S))
 
   -- two states of one width are equal when their values are
-  same-states : (a b : List ℤ) → length a ≡ length b → ((x : ℕ) → x < length a → get_or a x (pos 0) ≡ get_or b x (pos 0)) → a ≡ b
-  same-states a b h f = ext_get_or (pos 0) a b h f
+  same_states : (a b : List ℤ) → length a ≡ length b → ((x : ℕ) → x < length a → get_or a x (pos 0) ≡ get_or b x (pos 0)) → a ≡ b
+  same_states a b h f = ext_get_or (pos 0) a b h f
 
-  done-states : (r : List (List ℤ)) → CompleteRun S r → States S r
-  done-states r D = record {
+  done_states : (r : List (List ℤ)) → CompleteRun S r → States S r
+  done_states r D = record {
     wide = D.wide;
-    ranged = λ i h. one_more (value_in r) D.count (begins-legal D.ends.begun) (row-legal D.ends.begun D.ends.row) i (omega (arith, D.counted));
+    ranged = λ i h. one_more (value_in r) D.count (begins_legal D.ends.begun) (row_legal D.ends.begun D.ends.row) i (omega (arith, D.counted));
   }
 
-  done-satisfies : (r : List (List ℤ)) → CompleteRun S r → Satisfies S r
-  done-satisfies r D = record {
-    interval = record { some_state = omega (arith, D.counted); each = done-states r D };
-    holds = holds (subst (λ j. Owed S (value_in r) 0 j (statement_at S S.sheet.run) None) e (ends-hold S L (value_in r) D.ends));
+  done_satisfies : (r : List (List ℤ)) → CompleteRun S r → Satisfies S r
+  done_satisfies r D = record {
+    interval = record { some_state = omega (arith, D.counted); each = done_states r D };
+    holds = holds (subst (λ j. Owed S (value_in r) 0 j (statement_at S S.sheet.run) None) e (ends_hold S L (value_in r) D.ends));
   }
     where
       e : D.count ≡ length r - 1
       e = omega (arith, D.counted)
 
-  done-only : (r l : List (List ℤ)) → CompleteRun S r → Satisfies S l → l ≡ r
-  done-only r l D H =
+  done_only : (r l : List (List ℤ)) → CompleteRun S r → Satisfies S l → l ≡ r
+  done_only r l D H =
       ext_get_or [] l r len
-      (λ i h. same-states (get_or l i []) (get_or r i []) (H.interval.each.wide i h ∙ sym (D.wide i (omega (arith, len))))
+      (λ i h. same_states (get_or l i []) (get_or r i []) (H.interval.each.wide i h ∙ sym (D.wide i (omega (arith, len))))
       (λ x q. sym (f.1 i (omega (arith, H.interval.some_state)) x (subst (λ z. x < z) (H.interval.each.wide i h) q))))
     where
       f : (length l - 1 ≡ D.count) × ((i : ℕ) → i ≤ length l - 1 → (x : ℕ) → x < width S → value_in r i x ≡ value_in l i x)
@@ -92,24 +92,24 @@ module _ (S : Setting) (L : Limits S.sheet) where
       len : length l ≡ length r
       len = omega (arith, f.0, H.interval.some_state, D.counted)
 
-  open-fore : (r l : List (List ℤ)) (w : Work) → Started S r w → Satisfies S l → Fore S (value_in r) (value_in l) (length l - 1) (length r) w
-  open-fore r l w O H = fore S L (as_fits l H) O.begun
+  open_fore : (r l : List (List ℤ)) (w : Work) → Started S r w → Satisfies S l → Fore S (value_in r) (value_in l) (length l - 1) (length r) w
+  open_fore r l w O H = fore S L (as_fits l H) O.begun
 
-  open-longer : (r l : List (List ℤ)) (w : Work) → Started S r w → Satisfies S l → length r < length l
-  open-longer r l w O H = omega (arith, (open-fore r l w O H).within, H.interval.some_state)
+  open_longer : (r l : List (List ℤ)) (w : Work) → Started S r w → Satisfies S l → length r < length l
+  open_longer r l w O H = omega (arith, (open_fore r l w O H).within, H.interval.some_state)
 
-  open-begins : (r l : List (List ℤ)) (w : Work) → Started S r w → Satisfies S l → take (length r) l ≡ r
-  open-begins r l w O H =
+  open_begins : (r l : List (List ℤ)) (w : Work) → Started S r w → Satisfies S l → take (length r) l ≡ r
+  open_begins r l w O H =
       ext_get_or [] (take (length r) l) r len
       (λ i h. get_or-take (length r) l i [] (omega (arith, len))
-      ∙ same-states (get_or l i []) (get_or r i []) (H.interval.each.wide i (omega (arith, len, lt)) ∙ sym (O.wide i (omega (arith, len))))
+      ∙ same_states (get_or l i []) (get_or r i []) (H.interval.each.wide i (omega (arith, len, lt)) ∙ sym (O.wide i (omega (arith, len))))
       (λ x q. sym (B.same i (omega (arith, len)) x (subst (λ z. x < z) (H.interval.each.wide i (omega (arith, len, lt))) q))))
     where
       B : Fore S (value_in r) (value_in l) (length l - 1) (length r) w
-      B = open-fore r l w O H
+      B = open_fore r l w O H
 
       lt : length r < length l
-      lt = open-longer r l w O H
+      lt = open_longer r l w O H
 
       len : length (take (length r) l) ≡ length r
       len = omega (arith, length-take (length r) l, lt)
@@ -140,21 +140,21 @@ contradiction_of n p (goes w c) e = absurd (judged_no (left_open n w) n p w e)
 
 pub settling_ends : SettlingEnds
 settling_ends S L r w o =
-    let q : (x : Outcome) × Settles S (length r) w x = settles-total S L (length r) w (begins-tidy S L (started o).begun) in
+    let q : (x : Outcome) × Settles S (length r) w x = settles_total S L (length r) w (begins_tidy S L (started o).begun) in
     let t : Steps S (length r) w (step_of (width S) q.0) = record { outcome = q.0; settles = q.1; comes = refl } in
-    (step_of (width S) q.0, t, λ s a. steps-one t a)
+    (step_of (width S) q.0, t, λ s a. steps_one t a)
 
 pub finished_is_the_one : FinishedIsTheOne
-finished_is_the_one S L r f = let D : CompleteRun S r = completed f in (done-satisfies S L r D, λ l h. done-only S L r l D h)
+finished_is_the_one S L r f = let D : CompleteRun S r = completed f in (done_satisfies S L r D, λ l h. done_only S L r l D h)
 
 pub open_begins_all : OpenBeginsAll
 open_begins_all S L r w o =
     let B : Started S r w = started o in
-    (record { wide = B.wide; ranged = begins-legal S L B.begun }, λ l h. (open-longer S L r l w B h, open-begins S L r l w B h))
+    (record { wide = B.wide; ranged = begins_legal S L B.begun }, λ l h. (open_longer S L r l w B h, open_begins S L r l w B h))
 
 contradicted : (S : Setting) → Limits S.sheet → {r : List (List ℤ)} {s : Stop} → Stopped S r s → (p : ℕ) → s ≡ Contradiction p → (l : List (List ℤ)) → Satisfies S l → ⊥
 contradicted S L (stop {r = r} {w = w} o q) p e l h =
-    contradiction-refutes S L (as_fits S L l h) (started o).begun
+    contradiction_refutes S L (as_fits S L l h) (started o).begun
     (subst (λ x. Settles S (length r) w x) (contradiction_of (width S) p q.outcome (q.comes ∙ ap stopped e)) q.settles)
 
 pub contradiction_leaves_none : ContradictionLeavesNone

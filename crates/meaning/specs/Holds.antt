@@ -19,46 +19,46 @@ mutual
   -- a statement holds on the piece from state i to state j, which is asked only where i ≤ j; there is no way in which `false` holds
   pub data Holds (S : Setting) (σ : ℕ → ℕ → ℤ) : ℕ → ℕ → Statement → Type 0 where
     -- `true` always holds
-    true-holds : {i j : ℕ} → Holds S σ i j True
+    true_holds : {i j : ℕ} → Holds S σ i j True
     -- `empty`: the piece has one state
     empty_holds : {i j : ℕ} → i ≡ j → Holds S σ i j Empty
     -- `more`: it has more than one
-    more-holds : {i j : ℕ} → i < j → Holds S σ i j More
+    more_holds : {i j : ℕ} → i < j → Holds S σ i j More
     -- `is X E`: X equals E at the first state
-    is-holds : {i j x e : ℕ} → σ i x ≡ number_on S σ i j e → Holds S σ i j (Is x e)
+    is_holds : {i j x e : ℕ} → σ i x ≡ number_on S σ i j e → Holds S σ i j (Is x e)
     -- `and P Q`: both hold
-    and-holds : {i j p q : ℕ} → Holds S σ i j (statement_at S p) → Holds S σ i j (statement_at S q) → Holds S σ i j (And p q)
+    and_holds : {i j p q : ℕ} → Holds S σ i j (statement_at S p) → Holds S σ i j (statement_at S q) → Holds S σ i j (And p q)
     -- `if E P Q`: P holds where E is not 0 at the first state
-    then-holds : {i j e p q : ℕ} → number_on S σ i j e ≢ pos 0 → Holds S σ i j (statement_at S p) → Holds S σ i j (If e p q)
+    then_holds : {i j e p q : ℕ} → number_on S σ i j e ≢ pos 0 → Holds S σ i j (statement_at S p) → Holds S σ i j (If e p q)
     -- and Q holds where it is 0
-    else-holds : {i j e p q : ℕ} → number_on S σ i j e ≡ pos 0 → Holds S σ i j (statement_at S q) → Holds S σ i j (If e p q)
+    else_holds : {i j e p q : ℕ} → number_on S σ i j e ≡ pos 0 → Holds S σ i j (statement_at S q) → Holds S σ i j (If e p q)
     -- `next P`: there is a second state, and P holds from it on
-    next-holds : {i j p : ℕ} → i < j → Holds S σ (suc i) j (statement_at S p) → Holds S σ i j (Next p)
+    next_holds : {i j p : ℕ} → i < j → Holds S σ (suc i) j (statement_at S p) → Holds S σ i j (Next p)
     -- `always P`: P holds from every state of the piece to its end
-    always-holds : {i j p : ℕ} → ((k : ℕ) → i ≤ k → k ≤ j → Holds S σ k j (statement_at S p)) → Holds S σ i j (Always p)
+    always_holds : {i j p : ℕ} → ((k : ℕ) → i ≤ k → k ≤ j → Holds S σ k j (statement_at S p)) → Holds S σ i j (Always p)
     -- `halt E`: E is not 0 at the last state, and is 0 at each earlier one
-    halt-holds : {i j e : ℕ} → number_on S σ j j e ≢ pos 0 → ((k : ℕ) → i ≤ k → k < j → number_on S σ k j e ≡ pos 0) → Holds S σ i j (Halt e)
+    halt_holds : {i j e : ℕ} → number_on S σ j j e ≢ pos 0 → ((k : ℕ) → i ≤ k → k < j → number_on S σ k j e ≡ pos 0) → Holds S σ i j (Halt e)
     -- `len E`: the piece has as many states after the first as E says there
     len_holds : {i j e n : ℕ} → number_on S σ i j e ≡ pos n → j ≡ i + n → Holds S σ i j (Len e)
     -- `gets X E`: from each state to the next, X becomes what E was
-    gets-holds : {i j x e : ℕ} → ((k : ℕ) → i ≤ k → k < j → σ (suc k) x ≡ number_on S σ k j e) → Holds S σ i j (Gets x e)
+    gets_holds : {i j x e : ℕ} → ((k : ℕ) → i ≤ k → k < j → σ (suc k) x ≡ number_on S σ k j e) → Holds S σ i j (Gets x e)
     -- `chop P Q`: the piece can be cut at some state, which both parts share, so that P holds before it and Q after it
-    chop-holds : {i j p q : ℕ} (k : ℕ) → i ≤ k → k ≤ j → Holds S σ i k (statement_at S p) → Holds S σ k j (statement_at S q) → Holds S σ i j (Chop p q)
+    chop_holds : {i j p q : ℕ} (k : ℕ) → i ≤ k → k ≤ j → Holds S σ i k (statement_at S p) → Holds S σ k j (statement_at S q) → Holds S σ i j (Chop p q)
     -- `for E P`: as many rounds of P as E says at the first state
-    for-holds : {i j e p : ℕ} → Rounds S σ i j p (rounds_of (number_on S σ i j e)) → Holds S σ i j (For e p)
+    for_holds : {i j e p : ℕ} → Rounds S σ i j p (rounds_of (number_on S σ i j e)) → Holds S σ i j (For e p)
     -- `while E P`: where E is 0 at the first state, the piece has no other state
-    while-stops : {i j e p : ℕ} → number_on S σ i j e ≡ pos 0 → i ≡ j → Holds S σ i j (While e p)
+    while_stops : {i j e p : ℕ} → number_on S σ i j e ≡ pos 0 → i ≡ j → Holds S σ i j (While e p)
     -- else P holds up to some later state, and the `while` from there on
-    while-goes : {i j e p : ℕ} (k : ℕ) → number_on S σ i j e ≢ pos 0 → i < k → k ≤ j → Holds S σ i k (statement_at S p) → Holds S σ k j (While e p) → Holds S σ i j (While e p)
+    while_goes : {i j e p : ℕ} (k : ℕ) → number_on S σ i j e ≢ pos 0 → i < k → k ≤ j → Holds S σ i k (statement_at S p) → Holds S σ k j (While e p) → Holds S σ i j (While e p)
     -- `request X`: where X has a reading at the first state, X equals it
-    request-holds : {i j x : ℕ} → ((v : ℤ) → S.readings x i ≡ Some v → σ i x ≡ v) → Holds S σ i j (Request x)
+    request_holds : {i j x : ℕ} → ((v : ℤ) → S.readings x i ≡ Some v → σ i x ≡ v) → Holds S σ i j (Request x)
 
   -- n rounds of statement p, one after the other, from state i to state j
   pub data Rounds (S : Setting) (σ : ℕ → ℕ → ℤ) : ℕ → ℕ → ℕ → ℕ → Type 0 where
     -- no rounds: the piece has one state
-    no-round : {i j p : ℕ} → i ≡ j → Rounds S σ i j p 0
+    no_round : {i j p : ℕ} → i ≡ j → Rounds S σ i j p 0
     -- one round, and the others from where it ends
-    one-round : {i j p n : ℕ} (k : ℕ) → i ≤ k → k ≤ j → Holds S σ i k (statement_at S p) → Rounds S σ k j p n → Rounds S σ i j p (suc n)
+    one_round : {i j p n : ℕ} (k : ℕ) → i ≤ k → k ≤ j → Holds S σ i k (statement_at S p) → Rounds S σ k j p n → Rounds S σ i j p (suc n)
 
 -- an interval satisfies the sheet, under the readings: the statement that is run holds on the whole of it
 pub record Satisfies (S : Setting) (states : List (List ℤ)) : Type 0 where

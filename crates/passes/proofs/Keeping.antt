@@ -17,10 +17,10 @@ use Rattle.meaning.specs.Rules.{visit, take_last, hand_on, visit_opened, visit_s
 use Rattle.meaning.specs.Order.{Lives, Nested, Tidy, Later}
 use Rattle.meaning.proofs.Lists.{nth_in}
 use Rattle.meaning.proofs.Known.{statement_with_ok}
-use Rattle.meaning.proofs.Moves.{lives_more, Moves, moves_on, Any, moves-any, moves_then, moves-stay, add-moves, put-moves}
-use Rattle.meaning.proofs.Grown.{rule-moves}
-use Rattle.meaning.proofs.Kept.{OfWork, kept-visit}
-use Rattle.meaning.proofs.Later.{later_refl, later-kept}
+use Rattle.meaning.proofs.Moves.{lives_more, Moves, moves_on, Any, moves_any, moves_then, moves_stay, add_moves, put_moves}
+use Rattle.meaning.proofs.Grown.{rule_moves}
+use Rattle.meaning.proofs.Kept.{OfWork, kept_visit}
+use Rattle.meaning.proofs.Later.{later_refl, later_kept}
 use Rattle.board.specs.Held.{sheet_of}
 
 -- a sheet keeps the limits
@@ -34,12 +34,12 @@ tidy_of (moves_on g l t p) = t
 -- a visit to a duty of the list keeps the work in order
 pub visit_tidy : (S : Setting) → Limits S.sheet → (k i : ℕ) (d : Duty) (w u : Work) (c : Bool) → Tidy S w → slice_get w.duties i ≡ Some d → goes u c ≡ visit S k d w → Tidy S u
 visit_tidy S L k i d w u c t e h =
-    let m : Moves S w Any (visit S k d w) = rule-moves k (length S.sheet.expressions) d.statement d w (statement_at S d.statement) d.number (statement_with_ok S L d.statement) t (t.duty_lives d (nth_in w.duties i d e)) in
+    let m : Moves S w Any (visit S k d w) = rule_moves k (length S.sheet.expressions) d.statement d w (statement_at S d.statement) d.number (statement_with_ok S L d.statement) t (t.duty_lives d (nth_in w.duties i d e)) in
     tidy_of (subst (λ (z : Outcome). Moves S w Any z) (sym h) m)
 
 -- and leads to a later one
 pub visit_later : (S : Setting) (k : ℕ) (d : Duty) (w u : Work) (c : Bool) → goes u c ≡ visit S k d w → Later w u
-visit_later S k d w u c h = subst (λ (z : Outcome). OfWork (Later w) z) (sym h) (kept-visit S (Later w) (later-kept S w) k d w (later_refl w))
+visit_later S k d w u c h = subst (λ (z : Outcome). OfWork (Later w) z) (sym h) (kept_visit S (Later w) (later_kept S w) k d w (later_refl w))
 
 -- a fact of an outcome's work, where something has changed before
 of_also : (P : Work → Type 0) (c : Bool) (o : Outcome) → OfWork P o → OfWork P (also c o)
@@ -53,23 +53,23 @@ of_next P (goes u c) f h g = of_also P c (f u) (g u h)
 
 -- a visit to a span keeps what putting an end and adding a duty keep
 module _ (P : Work → Type 0) (puts : (p : ℕ) (e : End) (s : ℕ) (w : Work) → P w → OfWork P (put p e s w)) (adds : (d : Duty) (w : Work) → P w → OfWork P (add d w)) where
-  of-take : (c : End) (p s : ℕ) (w : Work) → P w → OfWork P (take_last c p s w)
-  of-take Unknown p s w h = h
-  of-take On p s w h = h
-  of-take Last p s w h = puts p Last s w h
+  of_take : (c : End) (p s : ℕ) (w : Work) → P w → OfWork P (take_last c p s w)
+  of_take Unknown p s w h = h
+  of_take On p s w h = h
+  of_take Last p s w h = puts p Last s w h
 
-  of-hand : (c : End) (g : Opening) (w : Work) → P w → OfWork P (hand_on c g w)
-  of-hand Unknown g w h = h
-  of-hand On g w h = puts g.by On g.follower.span w h
-  of-hand Last g w h = adds g.follower w h
+  of_hand : (c : End) (g : Opening) (w : Work) → P w → OfWork P (hand_on c g w)
+  of_hand Unknown g w h = h
+  of_hand On g w h = puts g.by On g.follower.span w h
+  of_hand Last g w h = adds g.follower w h
 
-  of-opened : (q : Option Opening) (s : ℕ) (w : Work) → P w → OfWork P (visit_opened q s w)
-  of-opened None s w h = h
-  of-opened (Some g) s w h = of_next P (take_last (w.ends g.follower.span) g.by s w) (λ u. hand_on (u.ends s) g u) (of-take (w.ends g.follower.span) g.by s w h) (λ u. of-hand (u.ends s) g u)
+  of_opened : (q : Option Opening) (s : ℕ) (w : Work) → P w → OfWork P (visit_opened q s w)
+  of_opened None s w h = h
+  of_opened (Some g) s w h = of_next P (take_last (w.ends g.follower.span) g.by s w) (λ u. hand_on (u.ends s) g u) (of_take (w.ends g.follower.span) g.by s w h) (λ u. of_hand (u.ends s) g u)
 
 -- a visit to a span leads to a later work
 pub span_later : (S : Setting) (t : Span) (w u : Work) (c : Bool) → goes u c ≡ visit_span t w → Later w u
-span_later S t w u c h = subst (λ (z : Outcome). OfWork (Later w) z) (sym h) (of-opened (Later w) (later-kept S w).puts (later-kept S w).adds t.opening t.serial w (later_refl w))
+span_later S t w u c h = subst (λ (z : Outcome). OfWork (Later w) z) (sym h) (of_opened (Later w) (later_kept S w).puts (later_kept S w).adds t.opening t.serial w (later_refl w))
 
 -- to put an end opens no span
 put_same : (l : List Span) (p : ℕ) (c e : End) (s : ℕ) (w : Work) → w.spans ≡ l → OfWork (λ u. u.spans ≡ l) (put_by p c e s w)
@@ -97,24 +97,24 @@ add_same l d w h =
 pub span_same : (t : Span) (w u : Work) (c : Bool) → goes u c ≡ visit_span t w → u.spans ≡ w.spans
 span_same t w u c h =
     let P : Work → Type 0 = λ v. v.spans ≡ w.spans in
-    subst (λ (z : Outcome). OfWork P z) (sym h) (of-opened P (λ p e s v. put_same w.spans p (v.ends s) e s v) (add_same w.spans) t.opening t.serial w refl)
+    subst (λ (z : Outcome). OfWork P z) (sym h) (of_opened P (λ p e s v. put_same w.spans p (v.ends s) e s v) (add_same w.spans) t.opening t.serial w refl)
 
 -- a visit to an opened span moves to a work in order
 module _ {S : Setting} where
-  take-moves : (c : End) (p s : ℕ) (w : Work) → Tidy S w → Lives w.spans s → Moves S w Any (take_last c p s w)
-  take-moves Unknown p s w t l = moves-stay w t
-  take-moves On p s w t l = moves-stay w t
-  take-moves Last p s w t l = moves-any (put-moves p Last s w t l)
+  take_moves : (c : End) (p s : ℕ) (w : Work) → Tidy S w → Lives w.spans s → Moves S w Any (take_last c p s w)
+  take_moves Unknown p s w t l = moves_stay w t
+  take_moves On p s w t l = moves_stay w t
+  take_moves Last p s w t l = moves_any (put_moves p Last s w t l)
 
-  hand-moves : (c : End) (g : Opening) (w : Work) → Tidy S w → Lives w.spans g.follower.span → Moves S w Any (hand_on c g w)
-  hand-moves Unknown g w t l = moves-stay w t
-  hand-moves On g w t l = moves-any (put-moves g.by On g.follower.span w t l)
-  hand-moves Last g w t l = add-moves g.follower w t l
+  hand_moves : (c : End) (g : Opening) (w : Work) → Tidy S w → Lives w.spans g.follower.span → Moves S w Any (hand_on c g w)
+  hand_moves Unknown g w t l = moves_stay w t
+  hand_moves On g w t l = moves_any (put_moves g.by On g.follower.span w t l)
+  hand_moves Last g w t l = add_moves g.follower w t l
 
-  opened-moves : (q : Option Opening) (s : ℕ) (w : Work) → Tidy S w → Lives w.spans s → Nested w.spans s q → Moves S w Any (visit_opened q s w)
-  opened-moves None s w t i l = moves-stay w t
-  opened-moves (Some g) s w t i l =
-      moves_then (λ u. hand_on (u.ends s) g u) (take-moves (w.ends g.follower.span) g.by s w t i) (λ u a b _. hand-moves (u.ends s) g u b (lives_more a l.1))
+  opened_moves : (q : Option Opening) (s : ℕ) (w : Work) → Tidy S w → Lives w.spans s → Nested w.spans s q → Moves S w Any (visit_opened q s w)
+  opened_moves None s w t i l = moves_stay w t
+  opened_moves (Some g) s w t i l =
+      moves_then (λ u. hand_on (u.ends s) g u) (take_moves (w.ends g.follower.span) g.by s w t i) (λ u a b _. hand_moves (u.ends s) g u b (lives_more a l.1))
 
 -- a span of the list lives
 pub span_lives : (l : List Span) (i : ℕ) (t : Span) → slice_get l i ≡ Some t → Lives l t.serial
@@ -123,4 +123,4 @@ span_lives l i t e = record { span = t; inside = nth_in l i t e; named = refl }
 -- a visit to it keeps the work in order
 pub span_tidy : (S : Setting) (i : ℕ) (t : Span) (w u : Work) (c : Bool) → Tidy S w → slice_get w.spans i ≡ Some t → goes u c ≡ visit_span t w → Tidy S u
 span_tidy S i t w u c y e h =
-    tidy_of (subst (λ (z : Outcome). Moves S w Any z) (sym h) (opened-moves t.opening t.serial w y (span_lives w.spans i t e) (y.nested t (nth_in w.spans i t e))))
+    tidy_of (subst (λ (z : Outcome). Moves S w Any z) (sym h) (opened_moves t.opening t.serial w y (span_lives w.spans i t e) (y.nested t (nth_in w.spans i t e))))

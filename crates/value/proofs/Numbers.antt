@@ -105,19 +105,19 @@ module _
     (n : ℕ) (f : ℕ → Option ℤ) (end : End) (ρ : ℕ → ℤ) (last : Bool)
     (variables : (x : ℕ) → x < n → R (f x) (ρ x)) (ending : R (last_bit end) (bit last)) where
   -- it holds of an expression if it holds of those before it
-  related-step : (k : ℕ) (e : Expression) → expression_ok n k e ≡ true → (os : List (Option ℤ)) (zs : List ℤ) → Alike R os zs → R (known f end os e) (number ρ last zs e)
-  related-step k (Num c) ok os zs h = given c
-  related-step k (Val x) ok os zs h = variables x (ltb-true x n ok)
-  related-step k (Pair o a b) ok os zs h =
+  related_step : (k : ℕ) (e : Expression) → expression_ok n k e ≡ true → (os : List (Option ℤ)) (zs : List ℤ) → Alike R os zs → R (known f end os e) (number ρ last zs e)
+  related_step k (Num c) ok os zs h = given c
+  related_step k (Val x) ok os zs h = variables x (ltb-true x n ok)
+  related_step k (Pair o a b) ok os zs h =
       two (apply o) (get_or os a (Some (pos 0))) (get_or os b (Some (pos 0))) (get_or zs a (pos 0)) (get_or zs b (pos 0))
       (alike_at R (Some (pos 0)) (pos 0) (given (pos 0)) h a) (alike_at R (Some (pos 0)) (pos 0) (given (pos 0)) h b)
-  related-step k (Not a) ok os zs h = one denied (get_or os a (Some (pos 0))) (get_or zs a (pos 0)) (alike_at R (Some (pos 0)) (pos 0) (given (pos 0)) h a)
-  related-step k Last ok os zs h = ending
+  related_step k (Not a) ok os zs h = one denied (get_or os a (Some (pos 0))) (get_or zs a (pos 0)) (alike_at R (Some (pos 0)) (pos 0) (given (pos 0)) h a)
+  related_step k Last ok os zs h = ending
 
   -- so it holds of each
-  pub known-related : (es : List Expression) → ExpressionsOk n es → (i : ℕ) → R (known_at es f end i) (number_at es ρ last i)
-  known-related es ok i =
-      alike_at R (Some (pos 0)) (pos 0) (given (pos 0)) (tables_alike R (known f end) (number ρ last) es [] [] (λ k h. related-step k (get_or es k Last) (ok k h)) none) i
+  pub known_related : (es : List Expression) → ExpressionsOk n es → (i : ℕ) → R (known_at es f end i) (number_at es ρ last i)
+  known_related es ok i =
+      alike_at R (Some (pos 0)) (pos 0) (given (pos 0)) (tables_alike R (known f end) (number ρ last) es [] [] (λ k h. related_step k (get_or es k Last) (ok k h)) none) i
 
 -- what is known of a number agrees with it
 abbrev pub Agrees : Option ℤ → ℤ → Type 0
@@ -138,7 +138,7 @@ agrees_two g (Some u) (Some v) y z h k = cc
 -- a known number is the number, whatever the unknown variables are
 pub known_agrees : (n : ℕ) (es : List Expression) → ExpressionsOk n es → (f : ℕ → Option ℤ) (end : End) (ρ : ℕ → ℤ) (last : Bool)
     → ((x : ℕ) → x < n → Agrees (f x) (ρ x)) → Agrees (last_bit end) (bit last) → (i : ℕ) → Agrees (known_at es f end i) (number_at es ρ last i)
-known_agrees n es ok f end ρ last hv he i = known-related Agrees (λ z. refl) agrees_one agrees_two n f end ρ last hv he es ok i
+known_agrees n es ok f end ρ last hv he i = known_related Agrees (λ z. refl) agrees_one agrees_two n f end ρ last hv he es ok i
 
 -- a number is known
 abbrev Told : Option ℤ → ℤ → Type 0
@@ -153,4 +153,4 @@ last_told false = refl
 pub known_total : (n : ℕ) (es : List Expression) → ExpressionsOk n es → (f : ℕ → Option ℤ) (end : End) (ρ : ℕ → ℤ) (last : Bool)
     → ((x : ℕ) → x < n → f x ≡ Some (ρ x)) → end ≡ decided last → (i : ℕ) → known_at es f end i ≡ Some (number_at es ρ last i)
 known_total n es ok f end ρ last hv he i =
-    known-related Told (λ z. refl) (λ g o z h. ap (once g) h) (λ g o p y z h k. cc) n f end ρ last hv (ap last_bit he ∙ last_told last) es ok i
+    known_related Told (λ z. refl) (λ g o z h. ap (once g) h) (λ g o p y z h k. cc) n f end ρ last hv (ap last_bit he ∙ last_told last) es ok i

@@ -5,7 +5,7 @@ use Rattle.sheet.specs.declared.parts.Expression.{Expression}
 use Rattle.sheet.specs.declared.parts.Expression.TheVariants.{Last}
 use Rattle.sheet.specs.Limits.{expression_ok, ExpressionsOk}
 use Rattle.sheet.specs.Sizes.{tabled}
-use Rattle.sheet.proofs.Tabled.{tabled-length, tabled-front}
+use Rattle.sheet.proofs.Tabled.{tabled_length, tabled_front}
 
 -- two lists, as long as each other, whose entries are related place by place
 pub data Alike {X Y : Type 0} (R : X → Y → Type 0) : List X → List Y → Type 0 where
@@ -45,9 +45,9 @@ entry_from n f d look (e ∷ es) done ok zero h =
     let here : length done + 0 ≡ length done = omega arith in
     let whole = tabled f es (done ++ f done e ∷ []) in
     ap (λ (j : ℕ). get_or whole j d) here
-    ∙ tabled-front f es (done ++ f done e ∷ []) (length done) d (rw length_push (omega arith))
+    ∙ tabled_front f es (done ++ f done e ∷ []) (length done) d (rw length_push (omega arith))
     ∙ get_or_push done (f done e) d (length done) refl
-    ∙ look e (length done) done whole (ap (λ (j : ℕ). expression_ok n j e) (sym here) ∙ ok 0 (omega arith)) (λ a p. sym (tabled-front f (e ∷ es) done a d p))
+    ∙ look e (length done) done whole (ap (λ (j : ℕ). expression_ok n j e) (sym here) ∙ ok 0 (omega arith)) (λ a p. sym (tabled_front f (e ∷ es) done a d p))
 entry_from n f d look (e ∷ es) done ok (suc k) h =
     let pushed = done ++ f done e ∷ [] in
     let place : (j : ℕ) → length pushed + j ≡ length done + suc j = λ j. rw length_push (omega arith) in
@@ -64,4 +64,4 @@ table_entry n f d look es ok i h =
 
 -- past the end there is nothing
 pub table_past : {X : Type 0} (f : List X → Expression → X) (d : X) (es : List Expression) (i : ℕ) → length es ≤ i → get_or (tabled f es []) i d ≡ d
-table_past f d es i h = get_or_past (tabled f es []) i d (omega (arith, tabled-length f es []))
+table_past f d es i h = get_or_past (tabled f es []) i d (omega (arith, tabled_length f es []))

@@ -10,7 +10,7 @@ use Rattle.sheet.specs.Content.{no_variable}
 use Rattle.sheet.specs.Sizes.{size, sizes}
 use Rattle.sheet.specs.Writing.{variable_line, expression_line, statement_line, run_line}
 use Rattle.sheet.specs.Limits.{variable_ok, expression_ok, statement_ok, VariablesOk, ExpressionsOk, SizesOk, StatementsOk}
-use Rattle.sheet.proofs.Tabled.{tabled-push, tabled-length}
+use Rattle.sheet.proofs.Tabled.{tabled-push, tabled_length}
 use Rattle.drafts.specs.declared.items.Item.{Item}
 use Rattle.drafts.specs.Said.{Said, nothing, added}
 use Rattle.verdict.proofs.Steps.{clash_none, same_some}
@@ -131,7 +131,7 @@ sizes_push d e n g is =
 small_push : (d : Said) (e : Expression) (n : ℕ) → Good d → n ≡ size d.variables d.sizes e → n ≤ 1000000000 → SizesOk d.variables (d.expressions ++ e ∷ [])
 small_push d e n g is le k h =
     let s = sizes_push d e n g is in
-    let long : length d.sizes ≡ length d.expressions = ap length g.sized ∙ tabled-length (size d.variables) d.expressions [] ∙ (omega arith) in
+    let long : length d.sizes ≡ length d.expressions = ap length g.sized ∙ tabled_length (size d.variables) d.expressions [] ∙ (omega arith) in
     subst (λ l. get_or l k 0 ≤ 1000000000) s
     (table_push (λ (j m : ℕ). m ≤ 1000000000) d.sizes n 0 (λ j lt. subst (λ l. get_or l j 0 ≤ 1000000000) (sym g.sized) (g.small j (omega arith))) le k
     (omega (arith, length_push d.sizes n, length_push d.expressions e)))

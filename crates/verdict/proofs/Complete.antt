@@ -13,10 +13,10 @@ use Rattle.sheet.specs.Content.{Content, no_variable}
 use Rattle.sheet.specs.Sizes.{tabled, size, sizes}
 use Rattle.sheet.specs.Writing.{ended, body_lines, writing}
 use Rattle.sheet.specs.Limits.{variable_ok, expression_ok, statement_ok, VariablesOk, ExpressionsOk, StatementsOk, Limits}
-use Rattle.sheet.proofs.Tabled.{tabled-front}
+use Rattle.sheet.proofs.Tabled.{tabled_front}
 use Rattle.drafts.specs.declared.items.Item.{Item}
 use Rattle.drafts.specs.Said.{Said, nothing, added}
-use Rattle.verdict.specs.Verdict.{sheet_of, closed, on_line, lines_of, headed, last_byte, verdict}
+use Rattle.verdict.specs.Verdict.{sheet_of, closed, on_line, lines_of, headed, last_byte_ends, verdict}
 use Rattle.verdict.proofs.Pieces.{lacks, parted-one, parted-more}
 use Rattle.verdict.proofs.Given.{line_given}
 use Rattle.verdict.proofs.Chains.{Chain, texts, chain_lines, Good, good_start, good_more, steady}
@@ -77,7 +77,7 @@ chain_expressions vs all done (x ∷ es) ns xs g some e long few ok small c =
     let n : length all ≡ length done + length (x ∷ es) = ap length e ∙ length-append done (x ∷ es) in
     let is : get_or all (length done) Last ≡ x = ap (λ l. get_or l (length done) Last) e ∙ get_or_at done x es Last (length done) refl in
     let here : get_or (tabled (size vs) (x ∷ es) ns) (length done) 0 ≡ size vs ns x =
-    tabled-front (size vs) es (ns ++ size vs ns x ∷ []) (length done) 0 (omega (arith, length_push ns (size vs ns x))) ∙ get_or_at ns (size vs ns x) [] 0 (length done) long in (
+    tabled_front (size vs) es (ns ++ size vs ns x ∷ []) (length done) 0 (omega (arith, length_push ns (size vs ns x))) ∙ get_or_at ns (size vs ns x) [] 0 (length done) long in (
       ((some, refl, refl, omega arith), (ap (expression_ok (length vs) (length done)) (sym is) ∙ ok (length done) (omega arith), refl, omega (arith, here, small (length done) (omega arith)))),
       chain_expressions vs all (done ++ x ∷ []) es (ns ++ size vs ns x ∷ []) xs g some (e ∙ sym (append_assoc done (x ∷ []) es))
           (omega (arith, length_push ns (size vs ns x), length_push done x)) few ok small c,
@@ -115,7 +115,7 @@ text_taken text front ls r e short parts q =
     let n : length text ≡ length front + 1 = ap length e ∙ length-append front (10 ∷ []) in
     let k : length front ≡ length text - 1 = omega arith in
     cond-false (eqb (length text) 0 || ltb 16384 (length text)) _ _ (or_from _ _ (ne_eqb _ 0 (λ z. omega arith)) (le-ltb 16384 _ short))
-    ∙ cond-true (eqb (last_byte text) 10) _ _ (eq-eqb _ 10 (ap (λ l. get_or l (length text - 1) 0) e ∙ get_or_at front 10 [] 0 (length text - 1) k))
+    ∙ cond-true (eqb (last_byte_ends text) 10) _ _ (eq-eqb _ 10 (ap (λ l. get_or l (length text - 1) 0) e ∙ get_or_at front 10 [] 0 (length text - 1) k))
     ∙ ap (λ l. headed (parted 10 l)) (ap (take (length text - 1)) e ∙ take_at front (10 ∷ []) (length text - 1) k)
     ∙ ap headed parts ∙ q
 

@@ -80,8 +80,8 @@ module _ {X : Type 0} (word : X → List ℕ) (arity : X → ℕ) (n : ℕ) (w :
   find_none : Finds word arity n w None
   find_none x q = absurd (clash_none q)
 
-  find-more : (y : X) (rest : Option X) → arity y ≡ n → Finds word arity n w rest → Finds word arity n w (when w (word y) (Some y) rest)
-  find-more y rest e f x q = go (bytes_eq w (word y)) refl q
+  find_more : (y : X) (rest : Option X) → arity y ≡ n → Finds word arity n w rest → Finds word arity n w (when w (word y) (Some y) rest)
+  find_more y rest e f x q = go (bytes_eq w (word y)) refl q
     where
       go : (b : Bool) → bytes_eq w (word y) ≡ b → cond b (Some y) rest ≡ Some x → Named word arity n w x
       go true t r = subst (Named word arity n w) (same_some r) (record { word_is = (bytes_eq-Decides w (word y)).0 t; arity_is = e })
@@ -89,33 +89,33 @@ module _ {X : Type 0} (word : X → List ℕ) (arity : X → ℕ) (n : ℕ) (w :
 
 pub finds_bare_statement : (w : List ℕ) → Finds statement_word statement_arity 0 w (bare_statement w)
 finds_bare_statement w =
-    let go = find-more statement_word statement_arity 0 w in
+    let go = find_more statement_word statement_arity 0 w in
     go True _ refl (go False _ refl (go Empty _ refl (go More _ refl (find_none statement_word statement_arity 0 w))))
 
 pub finds_single_statement : (w : List ℕ) → Finds statement_word statement_arity 1 w (single_statement w)
 finds_single_statement w =
-    let go = find-more statement_word statement_arity 1 w in
+    let go = find_more statement_word statement_arity 1 w in
     go (Next 0) _ refl (go (Always 0) _ refl (go (Halt 0) _ refl (go (Len 0) _ refl (go (Request 0) _ refl (find_none statement_word statement_arity 1 w)))))
 
 pub finds_double_statement : (w : List ℕ) → Finds statement_word statement_arity 2 w (double_statement w)
 finds_double_statement w =
-    let go = find-more statement_word statement_arity 2 w in
+    let go = find_more statement_word statement_arity 2 w in
     go (Is 0 0) _ refl (go (And 0 0) _ refl (go (Gets 0 0) _ refl (go (Chop 0 0) _ refl (go (For 0 0) _ refl (go (While 0 0) _ refl (find_none statement_word statement_arity 2 w))))))
 
 pub finds_triple_statement : (w : List ℕ) → Finds statement_word statement_arity 3 w (triple_statement w)
-finds_triple_statement w = find-more statement_word statement_arity 3 w (If 0 0 0) _ refl (find_none statement_word statement_arity 3 w)
+finds_triple_statement w = find_more statement_word statement_arity 3 w (If 0 0 0) _ refl (find_none statement_word statement_arity 3 w)
 
 pub finds_bare_expression : (w : List ℕ) → Finds expression_word expression_arity 0 w (bare_expression w)
-finds_bare_expression w = find-more expression_word expression_arity 0 w Last _ refl (find_none expression_word expression_arity 0 w)
+finds_bare_expression w = find_more expression_word expression_arity 0 w Last _ refl (find_none expression_word expression_arity 0 w)
 
 pub finds_single_expression : (w : List ℕ) → Finds expression_word expression_arity 1 w (single_expression w)
 finds_single_expression w =
-    let go = find-more expression_word expression_arity 1 w in
+    let go = find_more expression_word expression_arity 1 w in
     go (Val 0) _ refl (go (Not 0) _ refl (find_none expression_word expression_arity 1 w))
 
 pub finds_double_expression : (w : List ℕ) → Finds expression_word expression_arity 2 w (double_expression w)
 finds_double_expression w =
-    let go = find-more expression_word expression_arity 2 w in
+    let go = find_more expression_word expression_arity 2 w in
     go (Pair Operator.Add 0 0) _ refl (go (Pair Operator.Sub 0 0) _ refl (go (Pair Operator.Mul 0 0) _ refl (go (Pair Operator.Eq 0 0) _ refl
     (go (Pair Operator.Lt 0 0) _ refl (go (Pair Operator.Both 0 0) _ refl (go (Pair Operator.Either 0 0) _ refl (find_none expression_word expression_arity 2 w)))))))
 
