@@ -109,6 +109,17 @@ def declared():
     return names
 
 
+def declares(folder, name):
+    """Whether a file of the folder declares the name."""
+    mark = re.compile(rf"(?m)^\s*(?:(?:abbrev|unfoldable|pub)\s+)*{name} :")
+    for path in files(".antt", ("specs", "proofs")):
+        if path.startswith(folder):
+            with open(path, encoding="utf-8") as f:
+                if mark.search(f.read()):
+                    return True
+    return False
+
+
 def snake(name):
     name = name.replace("′", "'").replace("-", "_").replace("·", "_")
     name = re.sub(r"([a-z0-9])([A-Z])", r"\1_\2", name)
@@ -173,6 +184,9 @@ def main(argv):
         return 1
     if "--dry" in argv:
         return 0
+    if not table:
+        print("respell: nothing to do")
+        return 0
     pattern = re.compile(rf"(?<!{WORD})({'|'.join(sorted(map(re.escape, table), key=len, reverse=True))})(?!{WORD})")
 
     def put(m):
@@ -183,17 +197,19 @@ def main(argv):
                 return m.group(1)
         return table[m.group(1)]
 
+    met = {(p, w): new for (p, w), new in MET.items() if declares(p, w)}
     pages = ["README.md", *sorted(glob.glob("docs/*.md"))]
     for path in [*files((".rt", ".antt", ".edit")), *pages]:
         with open(path, encoding="utf-8") as f:
             text = f.read()
-        here = {w: new for (p, w), new in MET.items() if path.startswith(p)}
-        for w, new in here.items():
-            text = re.sub(rf"(?<!{WORD}){w}(?!{WORD})", new, text)
+        new = text
+        for (p, w), other in met.items():
+            if path.startswith(p):
+                new = re.sub(rf"(?<!{WORD}){w}(?!{WORD})", other, new)
         if path.endswith(".md"):
-            new = re.sub(r"`[^`\n]+`", lambda m: pattern.sub(put, m.group(0)), text)
+            new = re.sub(r"`[^`\n]+`", lambda m: pattern.sub(put, m.group(0)), new)
         else:
-            new = pattern.sub(put, text)
+            new = pattern.sub(put, new)
         if new != text:
             with open(path, "w", encoding="utf-8") as f:
                 f.write(new)

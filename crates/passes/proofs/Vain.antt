@@ -11,8 +11,8 @@ use Rattle.meaning.specs.Intervals.{Setting, statement_at}
 use Rattle.meaning.specs.Work.{Work, goes}
 use Rattle.meaning.specs.Rules.{visit, visit_span}
 use Rattle.meaning.specs.Order.{◌∈◌, Lives, Nested, Tidy, Later}
-use Rattle.meaning.proofs.Lists.{nth_in, some_injective}
-use Rattle.meaning.proofs.Later.{later_refl, later_trans}
+use Rattle.meaning.proofs.Lists.{nth_in}
+use Rattle.meaning.proofs.Later.{later_trans}
 use Rattle.meaning.proofs.Spending.{Lasting}
 use Rattle.meaning.proofs.Idle.{Inside, visit-idle, span_idle}
 use Rattle.passes.specs.Marked.{Marked, MarkedSpans, lasting}
@@ -45,12 +45,6 @@ lasting_says (Request x) e h = h
 lives_below : (S : Setting) (w : Work) (s : ℕ) → Tidy S w → Lives w.spans s → s < w.next
 lives_below S w s t h = subst (λ z. z < w.next) h.named (t.young h.span h.inside)
 
--- a marked duty is visited in vain
-pub marked_vain : (S : Setting) (k : ℕ) (w : Work) (marks : List Bool) (i : ℕ) (d : Duty) → Marked S k w marks → get_or marks i false ≡ true → slice_get w.duties i ≡ Some d → goes w false ≡ visit S k d w
-marked_vain S k w marks i d m e h =
-    let r = m i e in
-    sym (subst (λ (z : Duty). visit S k z w ≡ goes w false) (some_injective r.0 d (sym r.1 ∙ h)) (r.2 w (later_refl w)))
-
 -- marks are right at a later work
 pub marked_later : (S : Setting) (k : ℕ) (w u : Work) (marks : List Bool) → Later w u → Marked S k w marks → Marked S k u marks
 marked_later S k w u marks h m = λ i e. let r = m i e in (r.0, h.duties i r.0 r.1, λ v l. r.2 v (later_trans h l))
@@ -61,12 +55,6 @@ pub marked_set : (S : Setting) (k i : ℕ) (d : Duty) (w u : Work) (marks : List
 marked_set S k i d w u marks t e n h l m = λ j q.
     at_set marks i j (λ z. (x : Duty) × (slice_get u.duties z ≡ Some x) × ((v : Work) → Later u v → visit S k x v ≡ goes v false)) (marked_later S k w u marks l m j)
     (d, l.duties i d e, visit-idle S k d w u (lives_below S w d.span t (t.duty_lives d (nth_in w.duties i d e))) (lasting_says (statement_at S d.statement) n) (sym h) l) q
-
--- a marked span is visited in vain
-pub spans_vain : (w : Work) (marks : List Bool) (i : ℕ) (t : Span) → MarkedSpans w marks → get_or marks i false ≡ true → slice_get w.spans i ≡ Some t → goes w false ≡ visit_span t w
-spans_vain w marks i t m e h =
-    let r = m i e in
-    sym (subst (λ (z : Span). visit_span z w ≡ goes w false) (some_injective r.0 t (sym r.1 ∙ h)) (r.2 w (later_refl w)))
 
 -- marks on spans are right at a later work
 pub spans_later : (w u : Work) (marks : List Bool) → Later w u → MarkedSpans w marks → MarkedSpans u marks

@@ -16,7 +16,7 @@ use Rattle.sheet.specs.Limits.{variable_ok, expression_ok, statement_ok, Variabl
 use Rattle.sheet.proofs.Tabled.{tabled_front}
 use Rattle.drafts.specs.declared.items.Item.{Item}
 use Rattle.drafts.specs.Said.{Said, nothing, added}
-use Rattle.verdict.specs.Verdict.{sheet_of, closed, on_line, lines_of, headed, last_byte_ends, verdict}
+use Rattle.verdict.specs.Verdict.{sheet_of, closed, on_line, lines_of, headed, last_byte, verdict}
 use Rattle.verdict.proofs.Pieces.{lacks, parted-one, parted-more}
 use Rattle.verdict.proofs.Given.{line_given}
 use Rattle.verdict.proofs.Chains.{Chain, texts, chain_lines, Good, good_start, good_more, steady}
@@ -115,7 +115,7 @@ text_taken text front ls r e short parts q =
     let n : length text ≡ length front + 1 = ap length e ∙ length-append front (10 ∷ []) in
     let k : length front ≡ length text - 1 = omega arith in
     cond-false (eqb (length text) 0 || ltb 16384 (length text)) _ _ (or_from _ _ (ne_eqb _ 0 (λ z. omega arith)) (le-ltb 16384 _ short))
-    ∙ cond-true (eqb (last_byte_ends text) 10) _ _ (eq-eqb _ 10 (ap (λ l. get_or l (length text - 1) 0) e ∙ get_or_at front 10 [] 0 (length text - 1) k))
+    ∙ cond-true (eqb (last_byte text) 10) _ _ (eq-eqb _ 10 (ap (λ l. get_or l (length text - 1) 0) e ∙ get_or_at front 10 [] 0 (length text - 1) k))
     ∙ ap (λ l. headed (parted 10 l)) (ap (take (length text - 1)) e ∙ take_at front (10 ∷ []) (length text - 1) k)
     ∙ ap headed parts ∙ q
 
