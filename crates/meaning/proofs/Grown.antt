@@ -80,15 +80,6 @@ module _ {S : Setting} where
   rule_moves k m s d w (While e p) o h t l = once_moves w (known_for S w d e) (while_rule d p) t (λ v. truth_moves w v _ _ (open_moves (while_opening d p) w l t) (moves_any (put_moves d.statement Last d.span w t l)))
   rule_moves k m s d w (Request x) o h t l = once_moves w (S.readings x k) (give S d.statement x) t (λ v. give_moves d.statement x v w (ltb-true x (width S) h) t)
 
-module _ (S : Setting) (L : Limits S.sheet) where
-  or_moves : (k : ℕ) (q : Option Duty) (f : Work → Outcome) (w : Work) → ((d : Duty) → q ≡ Some d → d ∈ w.duties) → Tidy S w → ((u : Work) → Tidy S u → Moves S u Any (f u)) → Moves S w Any (visit_or S k q f w)
-  or_moves k None f w i t h = moves_stay w t
-  or_moves k (Some d) f w i t h = moves_then f (rule_moves k (length S.sheet.expressions) d.statement d w (statement_at S d.statement) d.number (statement_with_ok S L d.statement) t (t.duty_lives d (i d refl))) (λ u a b _. h u b)
-
-  pub duties_moves : (k f i : ℕ) (w : Work) → Tidy S w → Moves S w Any (visit_duties S k f i w)
-  duties_moves k zero i w t = moves_stop
-  duties_moves k (suc f) i w t = or_moves k (slice_get w.duties i) (visit_duties S k f (suc i)) w (λ d e. nth_in w.duties i d e) t (duties_moves k f (suc i))
-
   take_moves : (c : End) (p s : ℕ) (w : Work) → Tidy S w → Lives w.spans s → Moves S w Any (take_last c p s w)
   take_moves Unknown p s w t l = moves_stay w t
   take_moves On p s w t l = moves_stay w t
@@ -99,10 +90,20 @@ module _ (S : Setting) (L : Limits S.sheet) where
   hand_moves On g w t l = moves_any (put_moves g.by On g.follower.span w t l)
   hand_moves Last g w t l = add_moves g.follower w t l
 
-  opened_moves : (q : Option Opening) (s : ℕ) (w : Work) → Tidy S w → Lives w.spans s → Nested w.spans s q → Moves S w Any (visit_opened q s w)
+  -- a visit to an opened span moves to a work in order
+  pub opened_moves : (q : Option Opening) (s : ℕ) (w : Work) → Tidy S w → Lives w.spans s → Nested w.spans s q → Moves S w Any (visit_opened q s w)
   opened_moves None s w t i l = moves_stay w t
   opened_moves (Some g) s w t i l =
       moves_then (λ u. hand_on (u.ends s) g u) (take_moves (w.ends g.follower.span) g.by s w t i) (λ u a b _. hand_moves (u.ends s) g u b (lives_more a l.1))
+
+module _ (S : Setting) (L : Limits S.sheet) where
+  or_moves : (k : ℕ) (q : Option Duty) (f : Work → Outcome) (w : Work) → ((d : Duty) → q ≡ Some d → d ∈ w.duties) → Tidy S w → ((u : Work) → Tidy S u → Moves S u Any (f u)) → Moves S w Any (visit_or S k q f w)
+  or_moves k None f w i t h = moves_stay w t
+  or_moves k (Some d) f w i t h = moves_then f (rule_moves k (length S.sheet.expressions) d.statement d w (statement_at S d.statement) d.number (statement_with_ok S L d.statement) t (t.duty_lives d (i d refl))) (λ u a b _. h u b)
+
+  pub duties_moves : (k f i : ℕ) (w : Work) → Tidy S w → Moves S w Any (visit_duties S k f i w)
+  duties_moves k zero i w t = moves_stop
+  duties_moves k (suc f) i w t = or_moves k (slice_get w.duties i) (visit_duties S k f (suc i)) w (λ d e. nth_in w.duties i d e) t (duties_moves k f (suc i))
 
   spans_moves : (l : List Span) (w : Work) → ((t : Span) → t ∈ l → t ∈ w.spans) → Tidy S w → Moves S w Any (visit_spans l w)
   spans_moves [] w i t = moves_stay w t

@@ -14,11 +14,11 @@ use Rattle.meaning.specs.Intervals.{Setting, statement_at}
 use Rattle.meaning.specs.Work.{Work, Outcome, stops, goes, unchanged, also, and_then, has_duty}
 use Rattle.meaning.specs.Effects.{most_duties, with_duty, if_room, put_by, put, add}
 use Rattle.meaning.specs.Rules.{visit, take_last, hand_on, visit_opened, visit_span}
-use Rattle.meaning.specs.Order.{Lives, Nested, Tidy, Later}
+use Rattle.meaning.specs.Order.{Lives, Tidy, Later}
 use Rattle.meaning.proofs.Lists.{nth_in}
 use Rattle.meaning.proofs.Known.{statement_with_ok}
-use Rattle.meaning.proofs.Moves.{lives_more, Moves, moves_on, Any, moves_any, moves_then, moves_stay, add_moves, put_moves}
-use Rattle.meaning.proofs.Grown.{rule_moves}
+use Rattle.meaning.proofs.Moves.{Moves, moves_on, Any}
+use Rattle.meaning.proofs.Grown.{rule_moves, opened_moves}
 use Rattle.meaning.proofs.Kept.{OfWork, kept_visit}
 use Rattle.meaning.proofs.Later.{later_refl, later_kept}
 use Rattle.board.specs.Held.{sheet_of}
@@ -98,23 +98,6 @@ pub span_same : (t : Span) (w u : Work) (c : Bool) → goes u c ≡ visit_span t
 span_same t w u c h =
     let P : Work → Type 0 = λ v. v.spans ≡ w.spans in
     subst (λ (z : Outcome). OfWork P z) (sym h) (of_opened P (λ p e s v. put_same w.spans p (v.ends s) e s v) (add_same w.spans) t.opening t.serial w refl)
-
--- a visit to an opened span moves to a work in order
-module _ {S : Setting} where
-  take_moves : (c : End) (p s : ℕ) (w : Work) → Tidy S w → Lives w.spans s → Moves S w Any (take_last c p s w)
-  take_moves Unknown p s w t l = moves_stay w t
-  take_moves On p s w t l = moves_stay w t
-  take_moves Last p s w t l = moves_any (put_moves p Last s w t l)
-
-  hand_moves : (c : End) (g : Opening) (w : Work) → Tidy S w → Lives w.spans g.follower.span → Moves S w Any (hand_on c g w)
-  hand_moves Unknown g w t l = moves_stay w t
-  hand_moves On g w t l = moves_any (put_moves g.by On g.follower.span w t l)
-  hand_moves Last g w t l = add_moves g.follower w t l
-
-  opened_moves : (q : Option Opening) (s : ℕ) (w : Work) → Tidy S w → Lives w.spans s → Nested w.spans s q → Moves S w Any (visit_opened q s w)
-  opened_moves None s w t i l = moves_stay w t
-  opened_moves (Some g) s w t i l =
-      moves_then (λ u. hand_on (u.ends s) g u) (take_moves (w.ends g.follower.span) g.by s w t i) (λ u a b _. hand_moves (u.ends s) g u b (lives_more a l.1))
 
 -- a span of the list lives
 pub span_lives : (l : List Span) (i : ℕ) (t : Span) → slice_get l i ≡ Some t → Lives l t.serial
