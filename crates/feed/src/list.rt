@@ -9,7 +9,7 @@ use crate::feed::{Feed, STATES, VARIABLES};
 use search::{Order, Side};
 
 // A record: the number that a variable has in a state.
-#[derive(Clone, Copy)]
+#[derive(Clone, Copy, Debug, PartialEq, Eq)]
 pub struct Reading {
     pub state: u32,
     pub variable: u32,

@@ -3,7 +3,7 @@ use value::End;
 
 // A duty is an obligation: a statement that a span owes from this state on.
 // A number makes it a part of that obligation: for `len` the states that come after this one, for `for` the rounds to go, for `gets` its variable's value.
-#[derive(Clone, Copy)]
+#[derive(Clone, Copy, Debug, PartialEq, Eq)]
 pub struct Duty {
     pub statement: u16,
     pub number: Option<i64>,
@@ -12,7 +12,7 @@ pub struct Duty {
 
 // How a duty opens a span: the statement that opens it, the one that it runs, its end at the start, and the duty that follows it.
 // The follower's span is the one in which the new span lies.
-#[derive(Clone, Copy)]
+#[derive(Clone, Copy, Debug, PartialEq, Eq)]
 pub struct Opening {
     pub by: u16,
     pub body: u16,
@@ -22,7 +22,7 @@ pub struct Opening {
 
 // A span is a piece of the interval that runs in this state. The whole interval is the first, with serial 0 and no opening.
 // It is fresh in the state that opened it. No serial is used twice in a run.
-#[derive(Clone, Copy)]
+#[derive(Clone, Copy, Debug, PartialEq, Eq)]
 pub struct Span {
     pub serial: u32,
     pub opening: Option<Opening>,
@@ -30,7 +30,7 @@ pub struct Span {
 }
 
 // Why a state cannot be recorded.
-#[derive(Clone, Copy)]
+#[derive(Clone, Copy, Debug, PartialEq, Eq)]
 pub enum Stop {
     // no number and no end suits every duty; with the statement where that was met
     Contradiction(u16),

@@ -1,4 +1,2 @@
--- What the contracts of this crate say: what an order is, and how numbers and byte strings compare; and in Totals the proofs that impls name.
+-- What the contracts of this crate say: what a total order is, and what a search finds.
 pub mod Order
-pub mod Sides
-pub mod Totals

@@ -1,13 +1,15 @@
 -- What a total order is, and what a search in a list finds. Assumes nothing.
-use Rattle.std.specs.Prelude.{ℕ, suc, ◌<◌, Bool, cond, ◌⊎◌, List, [], ◌∷◌, length, Some, None, Option, slice_index_or}
-use Rattle.search.specs.declared.order.Side.{Side}
-use Rattle.search.specs.declared.order.Side.TheVariants.{Lower, Same, Higher}
+use Rattle.std.specs.Prelude.{◌≡◌, ℕ, suc, ◌<◌, Bool, cond, ◌⊎◌, List, [], ◌∷◌, length, Some, None, Option, slice_index_or}
+use Rattle.std.specs.declared.cmp.Ordering.{Ordering}
+use Rattle.std.specs.declared.cmp.Ordering.TheVariants.{Less, Equal}
 
--- what the answer of a comparison says: the fact for lower, the one for same, or the one for higher
-abbrev pub Lies : Side → Type 0 → Type 0 → Type 0 → Type 0
-Lies Lower lower same higher = lower
-Lies Same lower same higher = same
-Lies Higher lower same higher = higher
+-- a comparison puts the first item ahead of the second
+abbrev pub below_by : {X : Type 0} → (X → X → Ordering) → X → X → Type 0
+below_by c x y = c x y ≡ Less
+
+-- a comparison does not tell the two items apart
+abbrev pub same_by : {X : Type 0} → (X → X → Ordering) → X → X → Type 0
+same_by c x y = c x y ≡ Equal
 
 -- the two relations make up a total order
 pub record Total {X : Type 0} (below same : X → X → Type 0) : Type 0 where

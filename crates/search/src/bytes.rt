@@ -1,27 +1,17 @@
 // The order of byte strings.
 ghost use Rattle.std.specs.Prelude.{◌≡◌};
-ghost use Rattle.search.specs.Sides.{by_bytes};
+ghost use Rattle.std.specs.Cmp.Lexicographic.{slice_cmp};
+ghost use Rattle.std.specs.Ordering.{nat_cmp, MatchOrdering};
+ghost use Rattle.search.specs.Order.{below_by};
 
-use crate::order::Side;
+use std::cmp::Ordering;
 
 // Which of two byte strings comes first: the first byte that differs decides, and then the length.
-pub fn compare_bytes(a: &[u8], b: &[u8]) -> Side
-    ensures { result ≡ by_bytes a.now b.now }
+// Only equal strings are the same.
+#[tactic(auto, using(crate::proofs::Totals::sides_of))]
+pub fn compare_bytes(a: &[u8], b: &[u8]) -> Ordering
+    ensures order { result ≡ slice_cmp nat_cmp a.now b.now }
+    ensures sides { MatchOrdering result (below_by (slice_cmp nat_cmp) a.now b.now) (a.now ≡ b.now) (below_by (slice_cmp nat_cmp) b.now a.now) }
 {
-    let common = a.len().min(b.len());
-    for i in 0..common {
-        if a[i] < b[i] {
-            return Side::Lower;
-        }
-        if b[i] < a[i] {
-            return Side::Higher;
-        }
-    }
-    if a.len() < b.len() {
-        Side::Lower
-    } else if b.len() < a.len() {
-        Side::Higher
-    } else {
-        Side::Same
-    }
+    a.cmp(b)
 }

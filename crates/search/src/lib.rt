@@ -1,12 +1,11 @@
-// One search for every kind of item with a total order.
+// One search for every kind of item with a total order, and the order of byte strings.
 #![tactic(auto)]
 
-pub mod bytes;
-pub mod numbers;
-pub mod order;
+mod bytes;
+mod finding;
 
 pub use bytes::compare_bytes;
-pub use order::{Order, Side, first_place};
+pub use finding::first_place;
 
 #[cfg(test)]
 mod tests;

@@ -1,5 +1,6 @@
 // What the search and the comparisons do on short lists.
 use super::*;
+use std::cmp::Ordering;
 
 // Of two equal items the first is found, an absent one is not, and an empty list has none.
 #[test]
@@ -14,8 +15,8 @@ fn places(rt: HostRuntime) {
 // The first byte that differs decides, and a front comes first.
 #[test]
 fn byte_strings(rt: HostRuntime) {
-    assert_eq!(rt; compare_bytes(b"ab", b"b"), Side::Lower);
-    assert_eq!(rt; compare_bytes(b"ab", b"a"), Side::Higher);
-    assert_eq!(rt; compare_bytes(b"", b"a"), Side::Lower);
-    assert_eq!(rt; compare_bytes(b"ab", b"ab"), Side::Same);
+    assert_eq!(rt; compare_bytes(b"ab", b"b"), Ordering::Less);
+    assert_eq!(rt; compare_bytes(b"ab", b"a"), Ordering::Greater);
+    assert_eq!(rt; compare_bytes(b"", b"a"), Ordering::Less);
+    assert_eq!(rt; compare_bytes(b"ab", b"ab"), Ordering::Equal);
 }

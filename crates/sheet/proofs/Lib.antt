@@ -1,4 +1,2 @@
 pub mod Founding
-pub mod Spelling
-pub mod Alike
 pub mod Tabled

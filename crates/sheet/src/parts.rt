@@ -1,13 +1,13 @@
 // The parts of a sheet, as plain values.
 
 // A variable's name: 1 to 12 letters a to z, filled up with zeros.
-#[derive(Clone, Copy)]
+#[derive(Clone, Copy, Debug, PartialEq, Eq, PartialOrd, Ord)]
 pub struct Name {
     pub letters: [u8; 12],
 }
 
 // A variable with the range of its numbers.
-#[derive(Clone, Copy)]
+#[derive(Clone, Copy, Debug, PartialEq, Eq)]
 pub struct Variable {
     pub name: Name,
     pub low: i32,
@@ -15,7 +15,7 @@ pub struct Variable {
 }
 
 // What an expression does with the numbers of two others.
-#[derive(Clone, Copy)]
+#[derive(Clone, Copy, Debug, PartialEq, Eq)]
 pub enum Operator {
     Add,
     Sub,
@@ -27,7 +27,7 @@ pub enum Operator {
 }
 
 // An expression. `Val` holds a variable's number; all other operands are numbers of expressions.
-#[derive(Clone, Copy)]
+#[derive(Clone, Copy, Debug, PartialEq, Eq)]
 pub enum Expression {
     Num(i32),
     Val(u16),
@@ -37,7 +37,7 @@ pub enum Expression {
 }
 
 // A statement. The operands stand in the order of the line that spells it.
-#[derive(Clone, Copy)]
+#[derive(Clone, Copy, Debug, PartialEq, Eq)]
 pub enum Statement {
     True,
     False,

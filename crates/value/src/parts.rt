@@ -1,7 +1,7 @@
 // What evaluation works with, as plain values.
 
 // What is known, at a state, of the end of its piece: nothing, that the piece goes on, or that this state is its last.
-#[derive(Clone, Copy)]
+#[derive(Clone, Copy, Debug, PartialEq, Eq)]
 pub enum End {
     Unknown,
     On,
@@ -9,7 +9,7 @@ pub enum End {
 }
 
 // What one evaluation has seen of an expression: nothing yet, or what is known of its number.
-#[derive(Clone, Copy)]
+#[derive(Clone, Copy, Debug, PartialEq, Eq)]
 pub enum Slot {
     Unseen,
     Seen(Option<i64>),
