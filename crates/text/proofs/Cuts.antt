@@ -1,8 +1,14 @@
 -- How the cuts of a text fit together. Assumes nothing.
-use Rattle.std.proofs.Common.{◌≡◌, ℕ, suc, ◌+◌, ◌-◌, ◌<◌, ◌≤◌, true, false, cond, eqb, leb, List, [], ◌∷◌, length, get_or, take, drop, sym, refl, ap, ◌∙◌, ⊎_elim, add-one, arith, length-drop}
-use Rattle.std.proofs.lemmas.List.{at_drop_more, at_drop_all, drop-drop}
+use Rattle.std.proofs.Common.{◌≡◌, ℕ, suc, ◌+◌, ◌-◌, ◌<◌, ◌≤◌, true, false, cond, eqb, leb, List, [], ◌∷◌, length, get_or, take, drop, sym, refl, ap, subst, ◌∙◌, ⊎_elim, add-one, arith, length-drop}
+use Rattle.std.proofs.lemmas.List.{at_drop_more, at_drop_all, drop-drop, take_all}
 use Rattle.std.proofs.lemmas.Bool.{eq-eqb, ne_eqb, le-leb, lt-leb, cases_lt}
-use Rattle.text.specs.Cut.{before, after, onto, parted, left}
+use Rattle.std.proofs.lemmas.List.Recursion.{is_position_or_len}
+use Rattle.std.proofs.lemmas.Grind.{common_steps}
+use Rattle.std.specs.List.{position_or_len}
+use Rattle.std.proofs.lemmas.List.Sums.{prefix_len-le-length}
+use Rattle.std.specs.Prelude.{Some, None, not, position, unwrap_or, Option, ◌==◌, Bool}
+use Rattle.std.specs.Borrow.{Bor}
+use Rattle.text.specs.Cut.{before, after, onto, parted, left, KeyAt}
 
 -- a byte that is no c is ahead of the first c
 before-other : (c b : ℕ) (bs : List ℕ) → (b ≡ c → ⊥) → before c (b ∷ bs) ≡ b ∷ before c bs
@@ -95,3 +101,52 @@ pub left_some : (c : ℕ) (s : List ℕ) → left c s 0 ≡ [] → ⊥
 left_some c s e =
     let cut = left_in c s 0 (omega arith) ∙ parted-cut c s in
     let z : ◌≡◌ {A = ℕ} 0 1 = cc in omega arith
+
+-- what is ahead of the first c, by a test for c
+length-before : (c : ℕ) (bs : List ℕ) → length (before c bs) ≡ position_or_len (λ (b : ℕ). b == c) bs
+length-before c = is_position_or_len (λ bs. length (before c bs)) (λ (b : ℕ). b == c) refl (λ b bs. elim (eqb b c) as (λ t. length (cond t [] (b ∷ before c bs)) ≡ cond t 0 (1 + length (before c bs))) [ true ↦ refl | false ↦ omega arith ])
+
+-- no more stands ahead of the first c than there is
+before-le : (c : ℕ) (bs : List ℕ) → length (before c bs) ≤ length bs
+before-le c bs = omega (arith, length-before c bs, prefix_len-le-length (λ b. not (b == c)) bs)
+
+-- where a search found a c, that is how much stands ahead of it
+pub found_at : (c : ℕ) (bs : List ℕ) (n : ℕ) → Some n ≡ position (λ (b : ℕ). b == c) bs → (n ≡ length (before c bs)) × (n < length bs)
+found_at c bs n e = let p = length-before c bs in grind (arith, common_steps)
+
+-- where a search found no c, all stands ahead of it
+pub found_none : (c : ℕ) (bs : List ℕ) → None ≡ position (λ (b : ℕ). b == c) bs → length (before c bs) ≡ length bs
+found_none c bs e = let p = length-before c bs in let q = prefix_len-le-length (λ b. not (b == c)) bs in grind (arith, common_steps)
+
+-- the place of the first c, or else the end
+pub found_or_end : (c : ℕ) (bs : List ℕ) (r : Option ℕ) → r ≡ position (λ (b : ℕ). b == c) bs → unwrap_or r (length bs) ≡ length (before c bs)
+found_or_end c bs None e = sym (found_none c bs e)
+found_or_end c bs (Some n) e = (found_at c bs n e).0
+
+-- what is left of a text from place p on
+pub rest_is : (s : List ℕ) (p : ℕ) → take (length s - p) (drop p s) ≡ drop p s
+rest_is s p = take_all (length s - p) (drop p s) (omega (arith, length-drop p s))
+
+-- a cut of a text at the first c past place p, where there is one
+pub cut_at : (c : ℕ) (s r : List ℕ) (p n : ℕ) → p ≤ length s → r ≡ drop p s → Some n ≡ position (λ (b : ℕ). b == c) r
+    → (take n r ≡ before c (drop p s)) × (length (before c (drop p s)) < length (drop p s)) × (drop (p + n + 1) s ≡ after c (drop p s)) × (p + n + 1 ≤ length s)
+cut_at c s r p n h w e =
+    let f = found_at c (drop p s) n (e ∙ ap (position (λ (b : ℕ). b == c)) w) in
+    let cut : take n r ≡ before c (drop p s) = (λ i. take (f.0 i) (w i)) ∙ take-before c (drop p s) in
+    let l = length-drop p s in
+    (cut, omega (arith, f.0, f.1), rest_from c s (before c (drop p s)) p (p + n + 1) refl (omega (arith, f.0)), omega (arith, f.1, l))
+
+-- no key is handed out of a text where no `=` stands past place p
+pub no_key : (s : Bor (List ℕ)) (r : List ℕ) (p : ℕ) (o : Option (Bor (List ℕ))) → o ≡ None → r ≡ drop p s.now → None ≡ position (λ (b : ℕ). b == 61) r → KeyAt s p p o
+no_key s r p o e w f = subst (KeyAt s p p) (sym e) (found_none 61 (drop p s.now) (f ∙ ap (position (λ (b : ℕ). b == 61)) w), refl)
+
+-- the first piece of what is left of a text from place p on, cut at the first c or at the end
+pub piece_at : (c : ℕ) (s r : List ℕ) (p n : ℕ) (o : Option ℕ) → p ≤ length s → r ≡ drop p s → o ≡ position (λ (b : ℕ). b == c) r → n ≡ unwrap_or o (length r)
+    → (take n r ≡ before c (drop p s)) × (left c s p ≡ take n r ∷ left c s (p + n + 1)) × (p + n + 1 ≡ p + length (take n r) + 1) × (p + n + 1 ≤ length s + 1)
+piece_at c s r p n o h w e f =
+    let k : n ≡ length (before c (drop p s)) = f ∙ ap (λ l. unwrap_or o (length l)) w ∙ found_or_end c (drop p s) o (e ∙ ap (position (λ (b : ℕ). b == c)) w) in
+    let cut : take n r ≡ before c (drop p s) = (λ i. take (k i) (w i)) ∙ take-before c (drop p s) in
+    let l = length-drop p s in
+    let m = before-le c (drop p s) in
+    let q : p + n + 1 ≡ p + length (take n r) + 1 = omega (arith, k, ap length cut) in
+    (cut, left_cut c s (take n r) p (p + n + 1) h cut q, q, omega (arith, k, m, l))

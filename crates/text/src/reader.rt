@@ -1,7 +1,7 @@
 // A text is read from its start to its end, by cutting parts off it. Nothing is copied.
-ghost use Rattle.std.specs.Prelude.{◌≡◌, ◌+◌, ◌≤◌, length, drop};
+ghost use Rattle.std.specs.Prelude.{◌≡◌, ◌==◌, position};
 ghost use Rattle.std.specs.Str.{bytes_eq};
-ghost use Rattle.text.specs.Cut.{before, Handed, KeyAt};
+ghost use Rattle.text.specs.Cut.{Handed, KeyAt};
 
 // A text with the place that was reached in it. It hands out lines, keys and words as parts of the text itself.
 #[derive(Drop)]
@@ -42,15 +42,14 @@ impl<'a> Reader<'a> {
     {
         let text = self.text;
         let from = self.place;
+        // not `get`: its contract doesn't say that the part lies in the text itself
         if from > text.len() {
             return None;
         }
-        let to = reach(text, from, b'=');
-        if to == text.len() {
-            return None;
-        }
-        self.place = to + 1;
-        Some(&text[from..to])
+        let rest = &text[from..];
+        let length = find_stop(rest, b'=')?;
+        self.place = from + length + 1;
+        Some(&rest[..length])
     }
 
     // The part up to the next `stop` or the end, and the place is then past that `stop`. None where the place is past the end.
@@ -60,26 +59,22 @@ impl<'a> Reader<'a> {
     {
         let text = self.text;
         let from = self.place;
+        // not `get`: its contract doesn't say that the part lies in the text itself
         if from > text.len() {
             return None;
         }
-        let to = reach(text, from, stop);
-        self.place = to + 1;
-        Some(&text[from..to])
+        let rest = &text[from..];
+        let length = find_stop(rest, stop).unwrap_or(rest.len());
+        self.place = from + length + 1;
+        Some(&rest[..length])
     }
 }
 
-// The place of the first `stop` from `from` on, or the text's end.
-fn reach(text: &[u8], from: usize, stop: u8) -> usize
-    requires { from ≤ length text.now }
-    ensures value { result ≡ from + length (before stop (drop from text.now)) }
-    ensures bound { result ≤ length text.now }
+// The place of the first `stop`, or none.
+fn find_stop(text: &[u8], stop: u8) -> Option<usize>
+    ensures { result ≡ position (λ b. b == stop) text.now }
 {
-    let mut to = from;
-    while to < text.len() && text[to] != stop {
-        to += 1;
-    }
-    to
+    text.iter().position(|b| *b == stop)
 }
 
 // Whether two texts have the same bytes.
