@@ -1,5 +1,5 @@
 -- What working out a number finds in a sheet, and what it leaves in the slots.
-use Rattle.std.proofs.Common.{◌≡◌, ℕ, ◌<◌, true, List, length, get_or, set, ℤ, vec_items, vec_len, Option, sym, ap, ◌∙◌, subst, ⊎_elim}
+use Rattle.std.proofs.Common.{◌≡◌, ℕ, ◌<◌, true, List, length, get_or, set, ℤ, vec_items, vec_len, Some, None, Option, sym, ap, ◌∙◌, subst, ⊎_elim}
 use Rattle.std.proofs.lemmas.List.{get_or_read, get_or_read_under, get_or-set_same, get_or-set_other}
 use Rattle.std.proofs.lemmas.Bool.{cases_eq}
 use Rattle.sheet.specs.declared.kept.Sheet.{Sheet}
@@ -9,8 +9,6 @@ use Rattle.sheet.specs.declared.parts.Expression.TheVariants.{Last}
 use Rattle.sheet.specs.Content.{no_variable, variable_at}
 use Rattle.sheet.specs.Limits.{expression_ok}
 use Rattle.value.specs.declared.parts.End.{End}
-use Rattle.value.specs.declared.parts.Slot.{Slot}
-use Rattle.value.specs.declared.parts.Slot.TheVariants.{Unseen, Seen}
 use Rattle.value.specs.Values.{known, knowns, valued}
 use Rattle.value.specs.Claims.{worth, Total, Within}
 use Rattle.value.specs.Slots.{Right, AllRight}
@@ -57,12 +55,12 @@ worth_total s values end i r p ρ last hv he =
     p ∙ known_total (length (vec_items s.tables.variables)) (vec_items s.tables.expressions) s.operands (valued (vec_items s.tables.variables) values) end ρ last hv he i
 
 -- slots stay right when one is filled with what is known
-pub filled_right : (g : ℕ → Option ℤ) (slots : List Slot) (i : ℕ) (v : Option ℤ) → AllRight g slots → i < length slots → v ≡ g i → AllRight g (set slots i (Seen v))
+pub filled_right : (g : ℕ → Option ℤ) (slots : List (Option (Option ℤ))) (i : ℕ) (v : Option ℤ) → AllRight g slots → i < length slots → v ≡ g i → AllRight g (set slots i (Some v))
 filled_right g slots i v all h e k =
-    let P : Slot → Type 0 = λ m. Right m (g k) in
+    let P : Option (Option ℤ) → Type 0 = λ m. Right m (g k) in
     ⊎_elim
     (λ (p : k ≡ i).
-    let q : get_or (set slots i (Seen v)) k Unseen ≡ Seen v = ap (λ (j : ℕ). get_or (set slots i (Seen v)) j Unseen) p ∙ get_or-set_same slots i (Seen v) Unseen h in
+    let q : get_or (set slots i (Some v)) k None ≡ Some v = ap (λ (j : ℕ). get_or (set slots i (Some v)) j None) p ∙ get_or-set_same slots i (Some v) None h in
     subst P (sym q) (e ∙ ap g (sym p)))
-    (λ (p : k ≡ i → ⊥). subst P (sym (get_or-set_other slots i k (Seen v) Unseen p)) (all k))
+    (λ (p : k ≡ i → ⊥). subst P (sym (get_or-set_other slots i k (Some v) None p)) (all k))
     (cases_eq k i)

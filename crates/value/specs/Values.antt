@@ -1,5 +1,5 @@
 -- The numbers of a sheet's expressions, where all is known and where only some is. Assumes nothing.
-use Rattle.std.specs.Prelude.{ℕ, zero, suc, Bool, true, false, cond, not, ◌&&◌, ◌||◌, List, [], ℤ, pos, negsuc, ◌+ℤ◌, ◌-ℤ◌, ◌*ℤ◌, Some, None, Option, ◌==◌, int_le, int_lt, slice_index_or}
+use Rattle.std.specs.Prelude.{ℕ, zero, suc, Bool, true, false, not, if◌then◌else◌, ◌&&◌, ◌||◌, List, [], ℤ, pos, negsuc, ◌+ℤ◌, ◌-ℤ◌, ◌*ℤ◌, Some, None, Option, ◌==◌, int_le, int_lt, slice_index_or}
 use Rattle.sheet.specs.declared.parts.Variable.{Variable}
 use Rattle.sheet.specs.declared.parts.Operator.{Operator}
 use Rattle.sheet.specs.declared.parts.Operator.TheVariants.{Add, Sub, Mul, Eq, Lt, Both, Either}
@@ -99,7 +99,7 @@ in_range v z = int_le v.low z && int_le z v.high
 -- a number outside its variable's range is no value of that variable
 abbrev pub ranged : Variable → Option ℤ → Option ℤ
 ranged v None = None
-ranged v (Some z) = cond (int_le v.low z && int_le z v.high) (Some z) None
+ranged v (Some z) = if in_range v z then Some z else None
 
 -- the number of variable x that a list of values gives: the value at x, if there is one and it lies in x's range
 abbrev pub valued : List Variable → List (Option ℤ) → ℕ → Option ℤ

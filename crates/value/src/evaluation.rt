@@ -1,6 +1,5 @@
 // The number of an expression.
-ghost use Rattle.std.specs.Prelude.{◌≡◌, ℕ, ◌<◌, length, None, vec_len, slice_index_or};
-ghost use Rattle.value.specs.declared.parts.Slot.TheVariants.{Unseen};
+ghost use Rattle.std.specs.Prelude.{◌≡◌, ◌<◌, length, None, replicate, vec_len, slice_index_or};
 ghost use Rattle.value.specs.Claims.{worth, Total, Within};
 ghost use Rattle.value.specs.Slots.{AllRight};
 
@@ -33,11 +32,9 @@ pub fn evaluate(
 
 // Forgets all that was seen.
 fn clear(slots: &mut [Slot])
-    ensures { (k : ℕ) → slice_index_or slots.new k Unseen ≡ Unseen }
+    ensures { slots.new ≡ replicate (length slots.old) None }
 {
-    for slot in slots.iter_mut() {
-        *slot = Slot::Unseen;
-    }
+    slots.fill(None);
 }
 
 // The number of an expression that is there. Its slot has it, or is given it now, so each number is worked out once.
@@ -54,7 +51,7 @@ fn worked(
     ensures answer { result ≡ worth sheet.now values.now end number }
     ensures right { AllRight (worth sheet.now values.now end) slots.new }
 {
-    if let Slot::Seen(v) = slots[number] {
+    if let Some(v) = slots[number] {
         return v;
     }
     let v = match sheet.tables.expressions[number] {
@@ -71,7 +68,7 @@ fn worked(
         Expression::Not(a) => negated(worked(sheet, values, end, a as usize, slots)),
         Expression::Last => ended(end),
     };
-    slots[number] = Slot::Seen(v);
+    slots[number] = Some(v);
     v
 }
 
@@ -79,5 +76,5 @@ fn worked(
 fn value_at(values: &[Option<i64>], x: usize) -> Option<i64>
     ensures { result ≡ slice_index_or values.now x None }
 {
-    if x < values.len() { values[x] } else { None }
+    values.get(x).copied().flatten()
 }

@@ -1,6 +1,5 @@
 // The memory of evaluation.
-ghost use Rattle.std.specs.Prelude.{◌≡◌, replicate, IfOk, vec_len};
-ghost use Rattle.value.specs.declared.parts.Slot.TheVariants.{Unseen};
+ghost use Rattle.std.specs.Prelude.{◌≡◌, None, replicate, IfOk, vec_len};
 
 use crate::parts::Slot;
 use sheet::MOST_EXPRESSIONS;
@@ -16,9 +15,9 @@ pub struct Memo {
 impl Memo {
     // A memory in which nothing was seen yet.
     pub fn new(heap: Global) -> Result<Memo, AllocError>
-        ensures { IfOk result (λ m. m.slots.items ≡ replicate 200 Unseen) }
+        ensures { IfOk result (λ m. m.slots.items ≡ replicate 200 None) }
     {
-        let slots = vec![in heap; Slot::Unseen; MOST_EXPRESSIONS]?;
+        let slots = vec![in heap; None; MOST_EXPRESSIONS]?;
         Ok(Memo { slots })
     }
 }

@@ -1,6 +1,6 @@
 // What the parts of an expression make of the numbers that are known.
 ghost use Rattle.std.specs.Prelude.{◌≡◌, ◌≤◌, unsigned_abs};
-ghost use Rattle.value.specs.Values.{apply, denied, once, twice, last_bit, ranged};
+ghost use Rattle.value.specs.Values.{apply, denied, in_range, once, twice, last_bit, ranged};
 ghost use Rattle.value.specs.Claims.{Within};
 
 use crate::parts::End;
@@ -27,20 +27,14 @@ pub(crate) fn paired(operator: Operator, x: Option<i64>, y: Option<i64>) -> Opti
     requires { (Within 1000000000 x) × (Within 1000000000 y) }
     ensures { result ≡ twice (apply operator) x y }
 {
-    match (x, y) {
-        (Some(a), Some(b)) => Some(applied(operator, a, b)),
-        (_, _) => None,
-    }
+    Some(applied(operator, x?, y?))
 }
 
 // 1 for 0 and 0 for any other number, where it is known.
 pub(crate) fn negated(x: Option<i64>) -> Option<i64>
     ensures { result ≡ once denied x }
 {
-    match x {
-        Some(a) => Some(i64::from(a == 0)),
-        None => None,
-    }
+    x.map(|a| i64::from(a == 0))
 }
 
 // The number of `last`, where the end is known.
@@ -54,18 +48,16 @@ pub(crate) fn ended(end: End) -> Option<i64>
     }
 }
 
+// Whether a number lies in a variable's range.
+pub fn in_range(variable: Variable, number: i64) -> bool
+    ensures { result ≡ in_range variable number }
+{
+    i64::from(variable.low) <= number && number <= i64::from(variable.high)
+}
+
 // The value, where there is one and it lies in the variable's range.
 pub(crate) fn fitting(variable: Variable, value: Option<i64>) -> Option<i64>
     ensures { result ≡ ranged variable value }
 {
-    match value {
-        Some(z) => {
-            if variable.low as i64 <= z && z <= variable.high as i64 {
-                Some(z)
-            } else {
-                None
-            }
-        }
-        None => None,
-    }
+    value.filter(|z| in_range(variable, *z))
 }

@@ -9,8 +9,4 @@ pub enum End {
 }
 
 // What one evaluation has seen of an expression: nothing yet, or what is known of its number.
-#[derive(Clone, Copy, Debug, PartialEq, Eq)]
-pub enum Slot {
-    Unseen,
-    Seen(Option<i64>),
-}
+pub type Slot = Option<Option<i64>>;

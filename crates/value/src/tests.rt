@@ -1,7 +1,7 @@
 // What the parts of an expression make of numbers, and what a new memory holds.
 use crate::memo::Memo;
 use crate::operate::{applied, ended, negated, paired};
-use crate::parts::{End, Slot};
+use crate::parts::End;
 use sheet::Operator;
 use std::test::Fail;
 
@@ -36,6 +36,6 @@ fn unknown(rt: HostRuntime) {
 fn memory(rt: HostRuntime) -> Result<(), Fail> {
     let memo = Memo::new(rt.alloc())?;
     assert_eq!(rt; memo.slots.len(), 200);
-    assert!(rt; matches!(memo.slots[199], Slot::Unseen));
+    assert!(rt; memo.slots[199].is_none());
     Ok(())
 }
