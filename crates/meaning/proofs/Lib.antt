@@ -24,7 +24,6 @@ pub mod Theorems
 pub mod Alike
 pub mod Kept
 pub mod Fuel
-pub mod Sorted
 pub mod Later
 pub mod Spent
 pub mod Spending

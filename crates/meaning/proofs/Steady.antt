@@ -6,6 +6,8 @@ use Rattle.std.proofs.lemmas.List.FromFn.{length-map-range_with_len, get_or-map-
 use Rattle.value.specs.declared.parts.End.{End}
 use Rattle.value.specs.declared.parts.End.TheVariants.{Unknown, On, Last}
 use Rattle.value.proofs.Numbers.{Agrees}
+use Rattle.meaning.specs.declared.parts.LeftOpen.{LeftOpen}
+use Rattle.meaning.specs.declared.parts.LeftOpen.TheVariants as LeftOpen
 use Rattle.meaning.specs.declared.parts.Span.{Span}
 use Rattle.meaning.specs.Intervals.{Setting, width}
 use Rattle.meaning.specs.Work.{Work, Outcome, stops, goes}
@@ -40,7 +42,7 @@ whole_end (recorded x u) = On
 whole_end (finished x) = Last
 
 -- nothing is left open in n variables from y on
-lowest_none : (f : ℕ → Option ℤ) (y n : ℕ) (o : Option ℕ) → lowest_unknown f y n o ≡ None → ((x : ℕ) → y ≤ x → x < y + n → IsGiven (f x)) × (o ≡ None)
+lowest_none : (f : ℕ → Option ℤ) (y n : ℕ) (o : Option LeftOpen) → lowest_unknown f y n o ≡ None → ((x : ℕ) → y ≤ x → x < y + n → IsGiven (f x)) × (o ≡ None)
 lowest_none f y zero o e = ((λ x a b. absurd (omega arith)), e)
 lowest_none f y (suc n) o e = by (f y) refl e (lowest_none f (suc y) n o)
   where
@@ -63,14 +65,14 @@ all_ended_says f [] e t q = elim q [ ]
 all_ended_says f (x ∷ l) e t (here p) = subst (λ z. IsEnded (f z.serial)) (sym p) (is_ended_says (f x.serial) (and_parts (is_ended (f x.serial)) (all_ended f l) e).0)
 all_ended_says f (x ∷ l) e t (there q) = all_ended_says f l (and_parts (is_ended (f x.serial)) (all_ended f l) e).1 t q
 
-ended_of : (b : Bool) → cond {A = Option ℕ} b None (Some 99) ≡ None → b ≡ true
+ended_of : (b : Bool) → cond {A = Option LeftOpen} b None (Some LeftOpen.End) ≡ None → b ≡ true
 ended_of true e = refl
-ended_of false e = absurd (none_some 99 (sym e))
+ended_of false e = absurd (none_some LeftOpen.End (sym e))
 
 -- a work that leaves nothing open is complete
 pub open_none : (n : ℕ) (w : Work) → left_open n w ≡ None → Complete n w
 open_none n w e =
-    let r = lowest_none w.known 0 n (cond (all_ended w.ends w.spans) None (Some 99)) e in
+    let r = lowest_none w.known 0 n (cond (all_ended w.ends w.spans) None (Some LeftOpen.End)) e in
     record { all_given = λ x h. r.0 x (omega arith) (omega arith); all_ended_says = all_ended_says w.ends w.spans (ended_of (all_ended w.ends w.spans) r.1) }
 
 given_or : (q : Option ℤ) → IsGiven q → Agrees q (unwrap_or q (pos 0))
@@ -95,7 +97,7 @@ steady_by : (S : Setting) (k : ℕ) (w : Work) (s : Step) (o : Outcome) → Sett
 steady_by S k w s (stops p) q e h = absurd (h (subst Stopping e tt))
 steady_by S k w s (goes v c) q e h = by (left_open (width S) v) refl e
   where
-    by : (l : Option ℕ) → left_open (width S) v ≡ l → judged_by l (width S) v ≡ s → Steady S k w s
+    by : (l : Option LeftOpen) → left_open (width S) v ≡ l → judged_by l (width S) v ≡ s → Steady S k w s
     by (Some x) p e = absurd (h (subst Stopping e tt))
     by None p e =
         let r = closed_of (v.ends 0) (width S) v s e h in

@@ -10,6 +10,8 @@ use Rattle.value.specs.declared.parts.End.{End}
 use Rattle.value.specs.declared.parts.End.TheVariants.{Unknown, On, Last}
 use Rattle.value.specs.Values.{in_range}
 use Rattle.value.proofs.Numbers.{Agrees}
+use Rattle.meaning.specs.declared.parts.LeftOpen.{LeftOpen}
+use Rattle.meaning.specs.declared.parts.LeftOpen.TheVariants as LeftOpen
 use Rattle.meaning.specs.declared.parts.Stop.{Stop}
 use Rattle.meaning.specs.declared.parts.Stop.TheVariants.{Contradiction, Undetermined, Crowded}
 use Rattle.meaning.specs.Intervals.{Setting, width, statement_at, fits, value_in, States}
@@ -130,7 +132,7 @@ closed_no Unknown n p w e = subst IsContradiction (sym (ap stop_in e)) tt
 closed_no On n p w e = subst IsContradiction (sym (ap stop_in e)) tt
 closed_no Last n p w e = subst IsContradiction (sym (ap stop_in e)) tt
 
-judged_no : (q : Option ℕ) (n p : ℕ) (w : Work) → judged_by q n w ≡ stopped (Contradiction p) → ⊥
+judged_no : (q : Option LeftOpen) (n p : ℕ) (w : Work) → judged_by q n w ≡ stopped (Contradiction p) → ⊥
 judged_no None n p w e = closed_no (w.ends 0) n p w e
 judged_no (Some x) n p w e = subst IsContradiction (sym (ap stop_in e)) tt
 

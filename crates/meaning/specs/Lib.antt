@@ -1,5 +1,5 @@
 -- What a sheet means, how a state is settled, and the laws that join the two.
--- A reader has to believe these files, in this order, and nothing in proofs/. Orders and Order are for the contracts of inner code alone, and Sorted is a proof that an impl names.
+-- A reader has to believe these files, in this order, and nothing in proofs/. Order is for the contracts of inner code alone.
 pub mod Intervals
 pub mod Holds
 pub mod Work
@@ -8,6 +8,4 @@ pub mod Rules
 pub mod Passes
 pub mod Runs
 pub mod Laws
-pub mod Orders
 pub mod Order
-pub mod Sorted

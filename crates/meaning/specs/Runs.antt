@@ -1,10 +1,13 @@
 -- From state to state: what each one starts with, what it comes to, and the record of a run. Assumes nothing.
-use Rattle.std.specs.Prelude.{◌≡◌, ℕ, zero, suc, Bool, true, false, cond, ◌&&◌, List, [], ◌∷◌, ◌++◌, map, length, ℤ, pos, Some, None, Option}
+use Rattle.std.specs.Prelude.{◌≡◌, ℕ, zero, suc, Bool, true, false, if◌then◌else◌, ◌&&◌, List, [], ◌∷◌, ◌++◌, map, length, ℤ, pos, Some, None, Option}
 use Rattle.std.specs.List.{range_with_len}
 use Rattle.std.specs.Option.{unwrap_or}
 use Rattle.value.specs.declared.parts.End.{End}
 use Rattle.value.specs.declared.parts.End.TheVariants.{Unknown, On, Last}
 use Rattle.meaning.specs.declared.parts.Duty.{Duty}
+use Rattle.meaning.specs.declared.parts.LeftOpen.{LeftOpen}
+use Rattle.meaning.specs.declared.parts.LeftOpen.TheVariants as LeftOpen
+use Rattle.meaning.specs.declared.parts.LeftOpen.TheVariants.{Variable}
 use Rattle.meaning.specs.declared.parts.Span.{Span}
 use Rattle.meaning.specs.declared.parts.Stop.{Stop}
 use Rattle.meaning.specs.declared.parts.Stop.TheVariants.{Undetermined}
@@ -40,11 +43,11 @@ abbrev pub next_work : Work → Work
 next_work w = begun (going_on w.ends w.spans) w.later w.next
 
 -- the lowest unknown variable of the n from x on, or else o
-abbrev pub lowest_by : Option ℤ → ℕ → Option ℕ → Option ℕ
-lowest_by None x o = Some x
+abbrev pub lowest_by : Option ℤ → ℕ → Option LeftOpen → Option LeftOpen
+lowest_by None x o = Some (Variable x)
 lowest_by (Some v) x o = o
 
-abbrev pub lowest_unknown : (ℕ → Option ℤ) → ℕ → ℕ → Option ℕ → Option ℕ
+abbrev pub lowest_unknown : (ℕ → Option ℤ) → ℕ → ℕ → Option LeftOpen → Option LeftOpen
 lowest_unknown known x zero o = o
 lowest_unknown known x (suc n) o = lowest_by (known x) x (lowest_unknown known (suc x) n o)
 
@@ -59,9 +62,14 @@ abbrev pub all_ended : (ℕ → End) → List Span → Bool
 all_ended ends [] = true
 all_ended ends (t ∷ l) = is_ended (ends t.serial) && all_ended ends l
 
--- what a work with n variables leaves open: its lowest unknown variable, or 99 where only the end of a span is unknown, or nothing
-abbrev pub left_open : ℕ → Work → Option ℕ
-left_open n w = lowest_unknown w.known 0 n (cond (all_ended w.ends w.spans) None (Some 99))
+-- what a work with n variables leaves open: its lowest unknown variable, or the end of a span where only such are unknown, or nothing
+abbrev pub left_open : ℕ → Work → Option LeftOpen
+left_open n w = lowest_unknown w.known 0 n (if all_ended w.ends w.spans then None else Some LeftOpen.End)
+
+-- the number that is told of what is left open: that of the variable, or 99, which no variable has
+abbrev pub open_number : LeftOpen → ℕ
+open_number (Variable x) = x
+open_number LeftOpen.End = 99
 
 -- the state that a work with n variables has settled
 abbrev pub state_of : ℕ → Work → List ℤ
@@ -78,12 +86,12 @@ pub data Step : Type 0 where
 
 -- a state of n variables that leaves nothing open, by the end of the whole interval, which is then known
 abbrev pub closed_by : End → ℕ → Work → Step
-closed_by Unknown n w = stopped (Undetermined 99)
+closed_by Unknown n w = stopped (Undetermined LeftOpen.End)
 closed_by On n w = recorded (state_of n w) (next_work w)
 closed_by Last n w = finished (state_of n w)
 
 -- a settled state of n variables, by what it leaves open
-abbrev pub judged_by : Option ℕ → ℕ → Work → Step
+abbrev pub judged_by : Option LeftOpen → ℕ → Work → Step
 judged_by None n w = closed_by (w.ends 0) n w
 judged_by (Some x) n w = stopped (Undetermined x)
 

@@ -2,8 +2,8 @@
 #![tactic(auto)]
 
 mod laws;
-mod orders;
 mod parts;
+mod telling;
 
 pub use crate::laws::{first_duty, most_visits};
-pub use crate::parts::{Duty, Opening, Span, Stop};
+pub use crate::parts::{Duty, LeftOpen, Opening, Span, Stop};

@@ -3,11 +3,11 @@ use value::End;
 
 // A duty is an obligation: a statement that a span owes from this state on.
 // A number makes it a part of that obligation: for `len` the states that come after this one, for `for` the rounds to go, for `gets` its variable's value.
-#[derive(Clone, Copy, Debug, PartialEq, Eq)]
+#[derive(Clone, Copy, Debug, PartialEq, Eq, PartialOrd, Ord)]
 pub struct Duty {
     pub statement: u16,
-    pub number: Option<i64>,
     pub span: u32,
+    pub number: Option<i64>,
 }
 
 // How a duty opens a span: the statement that opens it, the one that it runs, its end at the start, and the duty that follows it.
@@ -29,13 +29,22 @@ pub struct Span {
     pub fresh: bool,
 }
 
+// What a settled state leaves open.
+#[derive(Clone, Copy, Debug, PartialEq, Eq)]
+pub enum LeftOpen {
+    // a variable has no number; the lowest such
+    Variable(u16),
+    // every variable has one, and only the end of a span is unknown
+    End,
+}
+
 // Why a state cannot be recorded.
 #[derive(Clone, Copy, Debug, PartialEq, Eq)]
 pub enum Stop {
     // no number and no end suits every duty; with the statement where that was met
     Contradiction(u16),
-    // the duties leave something open: the lowest variable without a number, or 99 where only a span's end is unknown
-    Undetermined(u16),
+    // the duties leave something open
+    Undetermined(LeftOpen),
     // a list of duties or the list of spans has no room for one more
     Crowded,
 }

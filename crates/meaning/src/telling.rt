@@ -1,0 +1,17 @@
+// What is told of a state that leaves something open.
+ghost use Rattle.std.specs.Prelude.{◌≡◌};
+ghost use Rattle.meaning.specs.Runs.{open_number};
+
+use crate::parts::LeftOpen;
+
+impl LeftOpen {
+    // The published number: that of the variable, or 99 where only the end of a span is unknown.
+    pub fn number(self) -> u16
+        ensures { result ≡ open_number self }
+    {
+        match self {
+            LeftOpen::Variable(x) => x,
+            LeftOpen::End => 99,
+        }
+    }
+}
