@@ -1,14 +1,9 @@
 -- A value that is there lies in its row; else the state or the variable is not there.
 use Rattle.std.proofs.Common.{◌+◌, ◌*◌, length, get_or, ℤ, pos, Some, ap, ◌∙◌, w64, SFits, rules}
 use Rattle.std.proofs.lemmas.Int.{to_z-of_z}
-use Rattle.record.proofs.Tables.{place_within, rows_fit, look_inside, look_past, look_wide}
+use Rattle.record.proofs.Tables.{rows_fit, look_inside, look_past, look_wide}
 use Rattle.record.proofs.table.TableRecorderRecorder.look.Goals as goal
 use Rattle.record.proofs.table.TableRecorderRecorder.look.Goals.{else-state-self-via-then-state-self+else-variable-self, else-state-self-via-else-state-self}
-
-pub bounds-self-state : goal.bounds-self-state
-bounds-self-state c =
-    let s = c.args.self.now in
-    place_within c.args.state s.count s.width c.args.variable (length s.memory.now) c.if-state-self.true c.if-variable-self.true (rows_fit s.count s.room s.width (length s.memory.now) s.whole)
 
 pub returns-then-variable-self : goal.returns-then-variable-self
 returns-then-variable-self c =
