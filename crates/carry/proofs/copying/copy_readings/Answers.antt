@@ -1,8 +1,8 @@
 -- The front of the values is the state of the readings.
-use Rattle.std.proofs.Common.{◌≡◌, ℕ, ◌-◌, cond, List, [], ◌∷◌, ◌++◌, take, drop, ℤ, ap, ◌∙◌, arith}
+use Rattle.std.proofs.Common.{◌≡◌, ℕ, List, [], ◌∷◌, ◌++◌, if◌then◌else◌, take, ℤ, pos, ap, ◌∙◌, arith, rules, tests}
 use Rattle.record.specs.Rules.{fitting}
 use Rattle.carry.specs.Carried.{or_zero, read_state}
-use Rattle.carry.proofs.Fillings.{front_by}
+use Rattle.carry.proofs.Fillings.{made_front}
 use Rattle.carry.proofs.copying.copy_readings.Goals as goal
 
 pub returns : goal.returns
@@ -10,15 +10,16 @@ returns g c =
     let R = g.R.Recorder in
     let rd = g.F.Feed.readings c.args.feed.now in
     let k = c.args.state in
-    let w = R.breadth c.args.recorder.now in
+    let w = c.width-width.result in
     let t = c.take.ensures in
-    let e : c.width-width.result ≡ w = c.width-width.ensures.answer in
-    let front : take (c.width-width.result - 0) (drop 0 c.loop-variable.values) ≡ read_state rd k w =
-    let n : c.width-width.result - 0 ≡ w = omega (arith, e) in
-    ap (λ (y : ℕ). take y c.loop-variable.values) n ∙ front_by (λ (v : ℕ). or_zero (rd v k)) c.loop-variable.values w (omega (arith, c.loop-variable.invariant.0, c.width-width.ensures.allowed)) (λ j p. c.loop-variable.invariant.1 j (omega (arith, e))) in
+    let e = c.width-width.ensures in
+    let xs = c.from_fn-values.result in
+    let front : take w xs ≡ read_state rd k (R.breadth c.args.recorder.now) =
+    made_front _ (λ (v : ℕ). or_zero (rd v k)) _ xs (pos 0) w 16 (omega (arith, e.answer, e.allowed)) (λ x y q r. (search (rules, tests), λ p. search (rules, tests))) c.from_fn-values.ensures.items
+    ∙ ap (read_state rd k) e.answer in
     record {
-      answer = t.answer ∙ ap (fitting (R.spare c.args.recorder.now) w) front;
-      listed = t.listed ∙ ap (λ (y : List ℤ). cond c.take.result (R.states c.args.recorder.now ++ y ∷ []) (R.states c.args.recorder.now)) front;
+      answer = t.answer ∙ ap (fitting (R.spare c.args.recorder.now) (R.breadth c.args.recorder.now)) front;
+      listed = t.listed ∙ ap (λ (y : List ℤ). if c.take.result then R.states c.args.recorder.now ++ y ∷ [] else R.states c.args.recorder.now) front;
       wide = t.wide;
       roomy = t.roomy;
       fixed = t.fixed;
