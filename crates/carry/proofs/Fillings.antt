@@ -11,10 +11,6 @@ use Rattle.record.specs.Rules.{fitting}
 use Rattle.record.specs.Rows.{row, rows}
 use Rattle.carry.specs.Carried.{taken, filled}
 
--- the first of two, where the test holds
-pub chosen : {X : Type 0} (b : Bool) (x y z : X) → b ≡ true → z ≡ x → z ≡ cond b x y
-chosen b x y z e p = p ∙ ap (λ (t : Bool). cond t x y) (sym e)
-
 -- a row behind the first one is a row of the rest
 row_beyond : (w k : ℕ) (s rest : List ℤ) → length s ≡ w → row w (s ++ rest) (k + 1) ≡ row w rest k
 row_beyond w k s rest e =

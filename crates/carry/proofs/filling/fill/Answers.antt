@@ -1,10 +1,10 @@
 -- Each turn offers the next whole state; the first that is denied, or the last one, ends it.
-use Rattle.std.proofs.Common.{◌≡◌, ℕ, List, ℤ, ◌++◌, ◌∷◌, [], true, length, sym, ap, ◌∙◌, arith, rules}
+use Rattle.std.proofs.Common.{◌≡◌, ℕ, true, sym, ap, ◌∙◌, arith, rules}
 use Rattle.std.proofs.lemmas.List.{length_push}
-use Rattle.record.specs.Rules.{allowed_width, fitting}
+use Rattle.record.specs.Rules.{fitting}
 use Rattle.record.proofs.Takings.{allowed_of, of_fits}
 use Rattle.carry.specs.Carried.{filled}
-use Rattle.carry.proofs.Fillings.{chosen, filled_on, filled_stop, filled_end}
+use Rattle.carry.proofs.Fillings.{filled_on, filled_stop, filled_end}
 use Rattle.carry.proofs.filling.fill.Given.{Over}
 use Rattle.carry.proofs.filling.fill.Goals as goal
 use Rattle.carry.proofs.filling.fill.Goals.{in-None, in-Some+then-not-take}
@@ -14,23 +14,15 @@ loop-state-preserved g c =
     let R = g.R.Recorder in
     let w = c.args.width in
     let r = c.loop-state.recorder in
-    let room = R.spare r in
-    let xs = c.loop-state.state-iterator.rest.now in
-    let rest = c.next.new.self.rest.now in
     let s = c.in-Some.state.now in
     let inv = c.loop-state.invariant in
     let steps = c.in-Some.ensures.steps in
     let t = c.if-not-take.ensures in
-    let fits : fitting room w s ≡ true = sym (t.answer ∙ ap (λ (y : ℕ). fitting room y s) inv.2) in
-    let more = of_fits room w s fits in (
-      ap (λ (y : List (List ℤ)). y ++ filled (R.spare c.take.new.self) w rest) t.listed ∙ ap (λ (y : ℕ). R.states r ++ s ∷ [] ++ filled y w rest) t.roomy ∙ filled_on room w xs s rest (R.states r) _ (allowed_of w (sym c.if-not-start.ensures.answer)).0 steps.1.0 (steps.1.1 ∙ inv.1) fits inv.0,
-      search rules,
-      search rules,
-      omega (arith, t.roomy, ap length t.listed, length_push (R.states r) s, inv.3, more.0),
-      search rules,
-      search rules,
-      search rules,
-    )
+    let fits : fitting (R.spare r) w s ≡ true = sym (t.answer ∙ ap (λ (y : ℕ). fitting (R.spare r) y s) inv.2) in
+    let room = of_fits (R.spare r) w s fits in
+    let count = length_push (R.states r) s in
+    let on = filled_on (R.spare r) w c.loop-state.state-iterator.rest.now s c.next.new.self.rest.now (R.states r) _ (allowed_of w (sym c.if-not-start.ensures.answer)).0 steps.1.0 (steps.1.1 ∙ inv.1) fits inv.0 in
+    search rules
 
 -- what is recorded at the end is what is filled from all
 full : (g : Over) (c : goal.After-count g) → g.R.Recorder.states c.match-next.recorder ≡ filled (g.R.Recorder.capacity c.args.recorder.now c.args.width) c.args.width c.args.numbers.now
@@ -52,7 +44,7 @@ full g c =
     ]
 
 pub returns-clause-answer : goal.returns-clause-answer
-returns-clause-answer g c = chosen (allowed_width c.args.width) _ 0 c.count.result (sym c.if-not-start.ensures.answer) (c.count.ensures ∙ ap length (full g c))
+returns-clause-answer g c = let e = full g c in search rules
 
 pub returns-clause-listed : goal.returns-clause-listed
-returns-clause-listed g c = chosen (allowed_width c.args.width) _ (g.R.Recorder.states c.args.recorder.now) (g.R.Recorder.states c.match-next.recorder) (sym c.if-not-start.ensures.answer) (full g c)
+returns-clause-listed g c = let e = full g c in search rules
