@@ -1,67 +1,78 @@
 -- How the states of a flat list are taken one after another. Assumes nothing.
-use Rattle.std.proofs.Common.{◌≡◌, ℕ, ◌+◌, ◌-◌, ◌*◌, ◌/◌, ◌<◌, ◌≤◌, Bool, true, false, cond, List, [], ◌∷◌, ◌++◌, map, length, get_or, take, drop, ℤ, pos, sym, ap, ◌∙◌, mul-le-mul_right, add-mul, div-mul-le_self, arith}
+use Rattle.std.proofs.Common.{◌≡◌, ℕ, zero, suc, ◌+◌, ◌-◌, ◌*◌, ◌/◌, ◌<◌, ◌≤◌, Bool, true, false, cond, if◌then◌else◌, List, [], ◌∷◌, ◌++◌, map, length, get_or, take, drop, ℤ, sym, ap, subst, ◌∙◌, add-mul, zero-add, zero-mul, refl, subst, arith}
+use Rattle.std.proofs.Math.Nat.{mul-add-div_right}
+use Rattle.std.proofs.lemmas.Nat.{div-mul-add}
 use Rattle.std.specs.List.{range_with_len}
-use Rattle.std.proofs.lemmas.List.FromFn.{get_or-map-range_with_len, fill_by_all}
-use Rattle.std.proofs.lemmas.List.{at_drop_more, at_drop_all, append_assoc, append-nil, length-take-le, get_or-take}
+use Rattle.std.proofs.lemmas.List.FromFn.{fill_by_all}
+use Rattle.std.proofs.lemmas.List.{append_assoc, length-append, drop-drop, drop_at, take_at, append-nil, length-take-le, get_or-take}
+use Rattle.std.specs.Array.{IsFromFnResult, IsFromFnResultFrom}
+use denote.Param.Members.{Mut, Called}
 use Rattle.record.specs.Rules.{fitting}
 use Rattle.record.specs.Rows.{row, rows}
-use Rattle.record.proofs.Tables.{length_rows}
-use Rattle.carry.specs.Carried.{taken}
+use Rattle.carry.specs.Carried.{taken, filled}
 
--- the first of two, where the test holds
-pub chosen : {X : Type 0} (b : Bool) (x y z : X) → b ≡ true → z ≡ x → z ≡ cond b x y
-chosen b x y z e p = p ∙ ap (λ (t : Bool). cond t x y) (sym e)
+-- a row behind the first one is a row of the rest
+row_beyond : (w k : ℕ) (s rest : List ℤ) → length s ≡ w → row w (s ++ rest) (k + 1) ≡ row w rest k
+row_beyond w k s rest e =
+    let a : (k + 1) * w ≡ w + k * w = (let d = add-mul k 1 w in omega (arith, d)) in
+    ap (λ (n : ℕ). take w (drop n (s ++ rest))) a ∙ ap (take w) (sym (drop-drop (k * w) w (s ++ rest)) ∙ ap (drop (k * w)) (drop_at s rest w e))
 
--- a whole state of a flat list ends within it
-pub state_within : (i w size : ℕ) → i < size / w → i * w + w ≤ size
-state_within i w size h =
-    let o : i + 1 ≤ size / w = omega arith in
-    let m : (i + 1) * w ≤ size / w * w = mul-le-mul_right w o in
-    let d = add-mul i 1 w in
-    let e = div-mul-le_self size w in
-    omega (arith, m, d, e)
+-- and so are those from one place on
+rows_beyond : (w k n : ℕ) (s rest : List ℤ) → length s ≡ w → map (row w (s ++ rest)) (range_with_len (k + 1) n) ≡ map (row w rest) (range_with_len k n)
+rows_beyond w k zero s rest e = refl
+rows_beyond w k (suc n) s rest e =
+    ap (λ (y : List ℤ). y ∷ map (row w (s ++ rest)) (range_with_len (k + 1 + 1) n)) (row_beyond w k s rest e)
+    ∙ ap (λ (y : List (List ℤ)). row w rest k ∷ y) (rows_beyond w (k + 1) n s rest e)
 
--- a part of w numbers is the state
-pub part_row : (i w : ℕ) (xs : List ℤ) → take (i * w + w - i * w) (drop (i * w) xs) ≡ row w xs i
-part_row i w xs = let e : i * w + w - i * w ≡ w = omega arith in ap (λ (n : ℕ). take n (drop (i * w) xs)) e
+-- the whole states of a flat list that begins with one
+rows_ahead : (w : ℕ) (s rest : List ℤ) → 0 < w → length s ≡ w → rows w (length (s ++ rest) / w) (s ++ rest) ≡ s ∷ rows w (length rest / w) rest
+rows_ahead w s rest h e =
+    let l : length (s ++ rest) ≡ 1 * w + length rest = (let a = length-append s rest in omega (arith, a, e)) in
+    let n : length (s ++ rest) / w ≡ suc (length rest / w) = ap (λ (y : ℕ). y / w) l ∙ mul-add-div_right h 1 (length rest) ∙ omega arith in
+    let r : row w (s ++ rest) 0 ≡ s = ap (λ (y : ℕ). take w (drop y (s ++ rest))) (zero-mul w) ∙ take_at s rest w e in
+    ap (λ (y : ℕ). rows w y (s ++ rest)) n
+    ∙ ap (λ (y : List ℤ). y ∷ map (row w (s ++ rest)) (range_with_len 1 (length rest / w))) r
+    ∙ ap (λ (y : List (List ℤ)). s ∷ y) (rows_beyond w 0 (length rest / w) s rest e)
 
--- what is taken from place i on, by the answer b for the state there
-taken-by : (room w n i : ℕ) (xs s : List ℤ) (b : Bool) → i < n → s ≡ row w xs i → b ≡ fitting room w s → taken room w (drop i (rows w n xs)) ≡ cond b (s ∷ taken (room - 1) w (drop (i + 1) (rows w n xs))) []
-taken-by room w n i xs s b h e f =
-    let r : get_or (rows w n xs) i [] ≡ s = get_or-map-range_with_len (row w xs) 0 n i i [] h (omega arith) ∙ sym e in
-    let l = length_rows w n xs in
-    at_drop_more (taken room w) (rows w n xs) i [] (omega arith)
-    ∙ ap (λ (y : List ℤ). cond (fitting room w y) (y ∷ taken (room - 1) w (drop (i + 1) (rows w n xs))) []) r
-    ∙ ap (λ (y : Bool). cond y (s ∷ taken (room - 1) w (drop (i + 1) (rows w n xs))) []) (sym f)
+-- what is filled from a flat list that begins with a whole state
+filled_more : (room w : ℕ) (xs s rest : List ℤ) → 0 < w → xs ≡ s ++ rest → length s ≡ w → filled room w xs ≡ (if fitting room w s then s ∷ filled (room - 1) w rest else [])
+filled_more room w xs s rest h e l = ap (filled room w) e ∙ ap (taken room w) (rows_ahead w s rest h l)
 
--- one state more is taken
-pub taken_more : (room w n i : ℕ) (xs s : List ℤ) (before after all : List (List ℤ)) (b : Bool) → i < n → s ≡ row w xs i → b ≡ fitting room w s → b ≡ true
-    → before ++ taken room w (drop i (rows w n xs)) ≡ all → after ≡ cond b (before ++ s ∷ []) before
-    → after ++ taken (room - 1) w (drop (i + 1) (rows w n xs)) ≡ all
-taken_more room w n i xs s before after all b h e f t p q =
-    let rest = taken (room - 1) w (drop (i + 1) (rows w n xs)) in
-    ap (λ (y : List (List ℤ)). y ++ rest) (q ∙ ap (λ (y : Bool). cond y (before ++ s ∷ []) before) t)
-    ∙ append_assoc before (s ∷ []) rest
-    ∙ ap (λ (y : List (List ℤ)). before ++ y) (sym (taken-by room w n i xs s b h e f ∙ ap (λ (y : Bool). cond y (s ∷ rest) []) t))
+-- the state there is taken, and the rest is filled
+pub filled_on : (room w : ℕ) (xs s rest : List ℤ) (before all : List (List ℤ)) → 0 < w → xs ≡ s ++ rest → length s ≡ w → fitting room w s ≡ true → before ++ filled room w xs ≡ all → before ++ s ∷ [] ++ filled (room - 1) w rest ≡ all
+filled_on room w xs s rest before all h e l f p =
+    append_assoc before (s ∷ []) (filled (room - 1) w rest)
+    ∙ ap (λ (y : List (List ℤ)). before ++ y) (sym (filled_more room w xs s rest h e l ∙ ap (λ (y : Bool). if y then s ∷ filled (room - 1) w rest else []) f))
     ∙ p
 
--- no state more is taken
-pub taken_stop : (room w n i : ℕ) (xs s : List ℤ) (before after all : List (List ℤ)) (b : Bool) → i < n → s ≡ row w xs i → b ≡ fitting room w s → b ≡ false
-    → before ++ taken room w (drop i (rows w n xs)) ≡ all → after ≡ cond b (before ++ s ∷ []) before
-    → after ≡ all
-taken_stop room w n i xs s before after all b h e f t p q =
-    let rest = taken (room - 1) w (drop (i + 1) (rows w n xs)) in
-    q ∙ ap (λ (y : Bool). cond y (before ++ s ∷ []) before) t
-    ∙ sym (append-nil before)
-    ∙ ap (λ (y : List (List ℤ)). before ++ y) (sym (taken-by room w n i xs s b h e f ∙ ap (λ (y : Bool). cond y (s ∷ rest) []) t))
+-- the state there is denied, which ends the filling
+pub filled_stop : (room w : ℕ) (xs s rest : List ℤ) (before all : List (List ℤ)) → 0 < w → xs ≡ s ++ rest → length s ≡ w → fitting room w s ≡ false → before ++ filled room w xs ≡ all → before ≡ all
+filled_stop room w xs s rest before all h e l f p =
+    sym (append-nil before)
+    ∙ ap (λ (y : List (List ℤ)). before ++ y) (sym (filled_more room w xs s rest h e l ∙ ap (λ (y : Bool). if y then s ∷ filled (room - 1) w rest else []) f))
     ∙ p
 
--- there is no further state
-pub taken_end : (room w n i : ℕ) (xs : List ℤ) (before all : List (List ℤ)) → n ≤ i → before ++ taken room w (drop i (rows w n xs)) ≡ all → before ≡ all
-taken_end room w n i xs before all h p =
-    let l = length_rows w n xs in
-    sym (append-nil before) ∙ ap (λ (y : List (List ℤ)). before ++ y) (sym (at_drop_all (taken room w) (rows w n xs) i (omega arith))) ∙ p
+-- what is left is shorter than a state
+pub filled_end : (room w : ℕ) (xs : List ℤ) (before all : List (List ℤ)) → length xs < w → before ++ filled room w xs ≡ all → before ≡ all
+filled_end room w xs before all h p =
+    let n : length xs / w ≡ 0 = ap (λ (y : ℕ). y / w) (omega arith) ∙ div-mul-add 0 w (length xs) h in
+    sym (append-nil before) ∙ ap (λ (y : List (List ℤ)). before ++ y) (sym (ap (λ (y : ℕ). taken room w (rows w y xs)) n)) ∙ p
 
--- the front of a list that holds f of each place
-pub front_by : (f : ℕ → ℤ) (xs : List ℤ) (w : ℕ) → w ≤ length xs → ((k : ℕ) → k < w → get_or xs k (pos 0) ≡ f k) → take w xs ≡ map f (range_with_len 0 w)
-front_by f xs w h p = fill_by_all f (take w xs) w (pos 0) (length-take-le w xs h) (λ k q. get_or-take w xs k (pos 0) q ∙ p k q)
+-- what calls of a closure that changes nothing gave, at a place below w
+made_at : {F B : Type 0} (g : Mut F (ℕ × Unit {0}) B) (h : ℕ → B) (f : F) (ys : List B) (d : B) (w : ℕ) → ((x : ℕ) (y : B) (q : F) → Called g f (x, tt) y q → (q ≡ f) × (x < w → y ≡ h x))
+    → (i n : ℕ) → IsFromFnResultFrom g f ys i n → (k : ℕ) → k < n → i + k < w → get_or ys (i + k) d ≡ h (i + k)
+made_at g h f ys d w s i zero e k p r = absurd (omega arith)
+made_at g h f ys d w s i (suc n) e zero p r =
+    let P : ℕ → Type 0 = λ m. get_or ys m d ≡ h m in
+    subst P (omega arith) (e.2.1 d ∙ (s i e.1 e.0 e.3).1 (omega arith))
+made_at g h f ys d w s i (suc n) e (suc k) p r =
+    let P : ℕ → Type 0 = λ m. get_or ys m d ≡ h m in
+    let c = subst (λ y. IsFromFnResultFrom g y ys (i + 1) n) (s i e.1 e.0 e.3).0 e.4 in
+    subst P (omega arith) (made_at g h f ys d w s (i + 1) n c k (omega arith) (omega arith))
+
+-- the first w places of an array that such calls made
+pub made_front : {F B : Type 0} (g : Mut F (ℕ × Unit {0}) B) (h : ℕ → B) (f : F) (ys : List B) (d : B) (w n : ℕ) → w ≤ n → ((x : ℕ) (y : B) (q : F) → Called g f (x, tt) y q → (q ≡ f) × (x < w → y ≡ h x)) → IsFromFnResult g f ys n → take w ys ≡ map h (range_with_len 0 w)
+made_front g h f ys d w n p s e =
+    let l = e.long in
+    let P : ℕ → Type 0 = λ m. get_or ys m d ≡ h m in
+    fill_by_all h (take w ys) w d (length-take-le w ys (omega arith)) (λ k q. get_or-take w ys k d q ∙ subst P (zero-add k) (made_at g h f ys d w s 0 n e.each k (omega arith) (omega arith)))

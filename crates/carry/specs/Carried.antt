@@ -1,5 +1,5 @@
 -- What is carried into a recorder. Assumes nothing.
-use Rattle.std.specs.Prelude.{ℕ, ◌-◌, ◌/◌, cond, List, [], ◌∷◌, map, length, ℤ, pos, Some, None, Option}
+use Rattle.std.specs.Prelude.{ℕ, ◌-◌, ◌/◌, if◌then◌else◌, List, [], ◌∷◌, map, length, ℤ, pos, Option, unwrap_or}
 use Rattle.std.specs.List.{range_with_len}
 use Rattle.record.specs.Rules.{fitting}
 use Rattle.record.specs.Rows.{rows}
@@ -7,7 +7,7 @@ use Rattle.record.specs.Rows.{rows}
 -- the states that are taken one after another, up to the first that is denied
 abbrev pub taken : ℕ → ℕ → List (List ℤ) → List (List ℤ)
 taken room width [] = []
-taken room width (s ∷ ss) = cond (fitting room width s) (s ∷ taken (room - 1) width ss) []
+taken room width (s ∷ ss) = if fitting room width s then s ∷ taken (room - 1) width ss else []
 
 -- what a recorder with this room holds after the whole states of a flat list were offered to it
 abbrev pub filled : ℕ → ℕ → List ℤ → List (List ℤ)
@@ -15,8 +15,7 @@ filled room width numbers = taken room width (rows width (length numbers / width
 
 -- a reading, and 0 where there is none
 abbrev pub or_zero : Option ℤ → ℤ
-or_zero None = pos 0
-or_zero (Some z) = z
+or_zero reading = unwrap_or reading (pos 0)
 
 -- the readings for a state, variable by variable
 abbrev pub read_state : (ℕ → ℕ → Option ℤ) → ℕ → ℕ → List ℤ

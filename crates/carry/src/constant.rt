@@ -1,11 +1,12 @@
 // A maker's own feed: one number everywhere.
 ghost use Rattle.feed.specs.Readings.{in_range};
+ghost use Rattle.std.proofs.Common.{rules};
 ghost use Rattle.std.specs.Prelude.{Some as Just};
 
 use feed::{Feed, STATES, VARIABLES};
 
 // A feed with the same reading everywhere in the ranges.
-#[derive(Clone, Copy)]
+#[derive(Clone, Copy, Debug, PartialEq, Eq)]
 pub struct Constant {
     pub number: i64,
 }
@@ -23,4 +24,7 @@ impl Feed for Constant {
             None
         }
     }
+
+    // Outside the ranges it is none.
+    ghost elsewhere = { λ s v k e. Prim.search rules };
 }

@@ -1,20 +1,11 @@
 // Carries readings from a feed of any kind into a recorder of any kind.
 ghost use Rattle.std.specs.Prelude.{◌≡◌, ℕ, ◌-◌, ◌≤◌, [], ◌∷◌, ◌++◌, if◌then◌else◌};
-ghost use Rattle.carry.specs.Carried.{or_zero, read_state};
+ghost use Rattle.carry.specs.Carried.{read_state};
 ghost use Rattle.record.specs.Rules.{fitting};
 
 use feed::Feed;
 use record::{MOST_WIDTH, Recorder};
-
-// A reading, and 0 where there is none.
-fn or_zero(reading: Option<i64>) -> i64
-    ensures { result ≡ or_zero reading }
-{
-    match reading {
-        Some(number) => number,
-        None => 0,
-    }
-}
+use std::array;
 
 // Makes one state of the feed's readings for `state`, one for each place of the recorder's width, and has it taken.
 pub fn copy_readings<F: Feed, R: Recorder>(feed: &F, state: usize, recorder: &mut R) -> bool
@@ -27,9 +18,12 @@ pub fn copy_readings<F: Feed, R: Recorder>(feed: &F, state: usize, recorder: &mu
     ensures untouched { (k : ℕ) → R.reach recorder.new ≤ k → R.cell recorder.new k ≡ R.cell recorder.old k }
 {
     let width = recorder.width();
-    let mut values = [0i64; MOST_WIDTH];
-    for variable in 0..width {
-        values[variable] = or_zero(feed.reading(variable, state));
-    }
-    recorder.take(&values[0..width])
+    let values: [i64; MOST_WIDTH] = array::from_fn(|variable| {
+        if variable < width {
+            feed.reading(variable, state).unwrap_or(0)
+        } else {
+            0
+        }
+    });
+    recorder.take(&values[..width])
 }

@@ -19,12 +19,10 @@ pub fn fill<R: Recorder>(recorder: &mut R, numbers: &[i64], width: usize) -> usi
     if !recorder.start(width) {
         return 0;
     }
-    let whole = numbers.len() / width;
-    for i in 0..whole {
-        let from = i * width;
-        if !recorder.take(&numbers[from..from + width]) {
-            return i;
+    for state in numbers.chunks_exact(width) {
+        if !recorder.take(state) {
+            break;
         }
     }
-    whole
+    recorder.count()
 }

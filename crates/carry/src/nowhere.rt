@@ -5,7 +5,7 @@ ghost use Rattle.std.specs.Prelude.{◌≡◌, [], pos};
 use record::{Recorder, allowed_width};
 
 // A recorder that keeps nothing: its capacity is 0 for every width.
-#[derive(Drop)]
+#[derive(Drop, Debug, PartialEq, Eq)]
 pub struct Nowhere {
     width: usize,
     // The width is an allowed one.
@@ -18,6 +18,16 @@ impl Nowhere {
         ensures { result.width ≡ 1 }
     {
         Nowhere { width: 1 }
+    }
+}
+
+// What a recorder that keeps nothing is where none is named.
+impl Default for Nowhere {
+    // The one that `new` makes.
+    fn default() -> Nowhere
+        ensures { result.width ≡ 1 }
+    {
+        Nowhere::new()
     }
 }
 

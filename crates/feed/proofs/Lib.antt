@@ -1,2 +1,2 @@
 -- Lemmas that the proofs of this crate, and of those above it, use.
-pub mod Records
+pub mod Sorted

@@ -1,4 +1,3 @@
--- What the contracts of this crate say: where readings are, when feeds are equal, and what a list of records reads; and in Sorted a proof that an impl names.
+-- What the contracts of this crate say: where readings are, when feeds are equal, and what a list of records reads.
 pub mod Readings
 pub mod Lists
-pub mod Sorted

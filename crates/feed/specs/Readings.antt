@@ -1,13 +1,13 @@
 -- Where a feed may have readings, and when two feeds are equal. Assumes nothing.
-use Rattle.std.specs.Prelude.{◌≡◌, ℕ, Bool, false, cond, ℤ, None, Option, nat_lt}
+use Rattle.std.specs.Prelude.{◌≡◌, ℕ, Bool, false, ◌&&◌, ℤ, None, Option, nat_lt, if◌then◌else◌}
 
 -- whether a variable is one of 0 to 15 and a state one of 0 to 65,534
 abbrev pub ranged : ℕ → ℕ → Bool
-ranged variable state = cond (nat_lt variable 16) (nat_lt state 65535) false
+ranged variable state = nat_lt variable 16 && nat_lt state 65535
 
 -- a reading in the ranges, and none elsewhere
 abbrev pub in_range : ℕ → ℕ → Option ℤ → Option ℤ
-in_range variable state reading = cond (ranged variable state) reading None
+in_range variable state reading = if ranged variable state then reading else None
 
 -- no reading outside the ranges
 abbrev pub ElsewhereNone : (ℕ → ℕ → Option ℤ) → Type 0

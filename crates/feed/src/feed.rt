@@ -14,8 +14,10 @@ pub trait Feed {
     // The reading for a variable, and then a state.
     ghost readings: { Self → ℕ → ℕ → Maybe ℤ };
 
-    // The reading for a variable and a state. Outside the ranges there is none.
+    // The reading for a variable and a state.
     fn reading(&self, variable: usize, state: usize) -> Option<i64>
-        ensures answer { result ≡ readings self.now variable state }
-        ensures elsewhere { ElsewhereNone (readings self.now) };
+        ensures { result ≡ readings self.now variable state };
+
+    // Outside the ranges there is no reading.
+    ghost elsewhere: { (s : Self) → ElsewhereNone (readings s) };
 }

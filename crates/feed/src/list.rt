@@ -1,43 +1,20 @@
 // A feed that is a list of records.
 ghost use Rattle.std.specs.Prelude.{◌≡◌};
-ghost use Rattle.search.specs.declared.order.Side.TheVariants.{Lower, Same};
-ghost use Rattle.feed.specs.Lists.{by_reading, listed};
-ghost use Rattle.search.specs.Totals.{total_of};
-ghost use Rattle.feed.specs.Sorted.{fair_reading};
+ghost use Rattle.std.proofs.Common.{rules};
+ghost use Rattle.feed.specs.Lists.{listed};
 
 use crate::feed::{Feed, STATES, VARIABLES};
-use search::{Order, Side};
 
-// A record: the number that a variable has in a state.
-#[derive(Clone, Copy, Debug, PartialEq, Eq)]
+// A record: the number that a variable has in a state. Records are in the order of their states, then of their variables, then of their numbers.
+#[derive(Clone, Copy, Debug, PartialEq, Eq, PartialOrd, Ord)]
 pub struct Reading {
     pub state: u32,
     pub variable: u32,
     pub number: i64,
 }
 
-// Records by their states, and by their variables where the states are equal.
-impl Order for Reading {
-    // The first record is for an earlier state, or for an earlier variable of one state.
-    ghost below = { λ r s. by_reading r s ≡ Lower };
-
-    // The two records are for one variable and one state.
-    ghost same = { λ r s. by_reading r s ≡ Same };
-
-    ghost total = { total_of by_reading fair_reading };
-
-    // Which of the two records is for the earlier place.
-    fn compare(&self, other: &Reading) -> Side {
-        match self.state.compare(&other.state) {
-            Side::Lower => Side::Lower,
-            Side::Same => self.variable.compare(&other.variable),
-            Side::Higher => Side::Higher,
-        }
-    }
-}
-
 // Reads from a list of records, in any order. The first one for a variable and a state counts.
-#[derive(Clone, Copy)]
+#[derive(Clone, Copy, Debug)]
 pub struct ListFeed<'a> {
     list: &'a [Reading],
 }
@@ -61,14 +38,12 @@ impl<'a> Feed for ListFeed<'a> {
         if variable >= VARIABLES || state >= STATES {
             return None;
         }
-        let wanted = Reading {
-            state: state as u32,
-            variable: variable as u32,
-            number: 0,
-        };
-        match search::first_place(self.list, &wanted) {
-            Some(place) => Some(self.list[place].number),
-            None => None,
-        }
+        self.list
+            .iter()
+            .find(|r| r.state as usize == state && r.variable as usize == variable)
+            .map(|r| r.number)
     }
+
+    // A record outside the ranges is no reading.
+    ghost elsewhere = { λ s v k e. Prim.search rules };
 }

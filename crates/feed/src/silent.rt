@@ -1,10 +1,10 @@
 // The feed without readings.
-ghost use Rattle.std.specs.Prelude.{None as Nothing};
+ghost use Rattle.std.specs.Prelude.{None as Nothing, refl};
 
 use crate::feed::Feed;
 
 // Has no reading anywhere.
-#[derive(Clone, Copy)]
+#[derive(Clone, Copy, Debug, Default, PartialEq, Eq)]
 pub struct Silent;
 
 // What silence means.
@@ -16,4 +16,7 @@ impl Feed for Silent {
     fn reading(&self, _variable: usize, _state: usize) -> Option<i64> {
         None
     }
+
+    // Nowhere is a reading, so there is none outside the ranges.
+    ghost elsewhere = { λ s v k e. refl };
 }

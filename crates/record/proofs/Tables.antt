@@ -1,10 +1,12 @@
 -- Rows of a table: how one more is written, where its values lie, and what else stays. Assumes nothing.
-use Rattle.std.proofs.Common.{◌≡◌, ℕ, ◌+◌, ◌-◌, ◌*◌, ◌/◌, ◌<◌, ◌≤◌, List, [], ◌∷◌, ◌++◌, length, get_or, take, drop, ℤ, pos, Some, None, Option, sym, ap, ◌∙◌, mul-le-mul_right, add-mul, div-mul-le_self, arith}
+use Rattle.std.proofs.Common.{◌≡◌, ℕ, ◌+◌, ◌*◌, ◌/◌, ◌<◌, ◌≤◌, List, [], ◌∷◌, ◌++◌, length, get_or, take, drop, ℤ, pos, Some, None, Option, sym, ap, ◌∙◌, mul-le-mul_right, add-mul, div-mul-le_self, arith}
 use lib.Arith.{digits_lt}
 use Rattle.std.specs.List.{slice_get}
 use Rattle.std.proofs.lemmas.List.FromFn.{length-map-range_with_len, get_or-map-range_with_len, map-range_with_len_more}
-use Rattle.std.proofs.lemmas.List.{get_or-take, get_or-drop, length-take, length-drop, take_at, drop_at, take-take, drop-take, length-append, length-take-le, append_assoc, same_lists}
+use Rattle.std.proofs.lemmas.List.{get_or-take, get_or-drop, length-take, length-drop, take_at, drop_at, take-take, drop-take, length-take-le, same_lists}
 use Rattle.std.proofs.lemmas.Option.{slice_get-get_or, slice_get_past}
+use borrow.Rule.Slice.PartMut.{put_mid}
+use Rattle.std.proofs.lemmas.Slice.{take-put_mid_below}
 use Rattle.record.specs.Rules.{within, look_at}
 use Rattle.record.specs.Rows.{row, rows, capacity_of}
 
@@ -82,35 +84,12 @@ rows-shared w n a b e =
     get_or-map-range_with_len (row w a) 0 n k k d p (omega arith) ∙ row_shared w n k a b p e ∙ sym (get_or-map-range_with_len (row w b) 0 n k k d p (omega arith)))
 
 -- a state written behind the others is one row more
-pub rows_more : (w n : ℕ) (mem xs mem' : List ℤ) → length xs ≡ w → n * w + w ≤ length mem → mem' ≡ take (n * w) mem ++ (xs ++ drop (n * w + w) mem) → rows w (n + 1) mem' ≡ rows w n mem ++ xs ∷ []
-rows_more w n mem xs mem' e h m =
+pub rows_more : (w n k : ℕ) (mem xs : List ℤ) → k ≡ w → length xs ≡ w → n * w + w ≤ length mem → rows w (n + 1) (put_mid (n * w) k mem xs) ≡ rows w n mem ++ xs ∷ []
+rows_more w n k mem xs d e h =
+    let m = put_mid (n * w) k mem xs in
+    let f : take (n * w) m ≡ take (n * w) mem = take-put_mid_below (n * w) k mem xs (n * w) (omega arith) (omega arith) in
     let l : length (take (n * w) mem) ≡ n * w = length-take-le (n * w) mem (omega arith) in
-    let r : row w mem' n ≡ xs = ap (λ (y : List ℤ). take w (drop (n * w) y)) m ∙ ap (take w) (drop_at (take (n * w) mem) (xs ++ drop (n * w + w) mem) (n * w) l) ∙ take_at xs (drop (n * w + w) mem) w e in
-    let f : take (n * w) mem' ≡ take (n * w) mem = ap (take (n * w)) m ∙ take_at (take (n * w) mem) (xs ++ drop (n * w + w) mem) (n * w) l in
-    map-range_with_len_more (row w mem') 0 n n (omega arith)
-    ∙ ap (λ (y : List (List ℤ)). y ++ row w mem' n ∷ []) (rows-shared w n mem' mem f)
+    let r : row w m n ≡ xs = ap (take w) (drop_at (take (n * w) mem) _ (n * w) l) ∙ take_at xs _ w e in
+    map-range_with_len_more (row w m) 0 n n (omega arith)
+    ∙ ap (λ (y : List (List ℤ)). y ++ row w m n ∷ []) (rows-shared w n m mem f)
     ∙ ap (λ (y : List ℤ). rows w n mem ++ y ∷ []) r
-
--- the same, where the width and the count have other names afterwards
-pub rows_taken : (w w' n n' : ℕ) (mem mem' xs : List ℤ) → w' ≡ w → n' ≡ n → rows w (n + 1) mem' ≡ rows w n mem ++ xs ∷ [] → rows w' (n' + 1) mem' ≡ rows w n mem ++ xs ∷ []
-rows_taken w w' n n' mem mem' xs a b e = ap (λ (y : ℕ). rows y (n' + 1) mem') a ∙ ap (λ (y : ℕ). rows w (y + 1) mem') b ∙ e
-
--- where the next row ends
-pub row_end : (n w n' w' : ℕ) → w' ≡ w → n' ≡ n → (n' + 1) * w' ≡ n * w + w
-row_end n w n' w' a b = ap (λ (y : ℕ). (n' + 1) * y) a ∙ ap (λ (y : ℕ). (y + 1) * w) b ∙ (let d = add-mul n 1 w in omega (arith, d))
-
--- a place ahead of what was written stays
-pub ahead_kept : (at k : ℕ) (mem mem' ys : List ℤ) → at ≤ length mem → mem' ≡ take at mem ++ ys → k < at → get_or mem' k (pos 0) ≡ get_or mem k (pos 0)
-ahead_kept at k mem mem' ys h m p =
-    let f : take at mem' ≡ take at mem = ap (take at) m ∙ take_at (take at mem) ys at (length-take-le at mem h) in
-    sym (get_or-take at mem' k (pos 0) p) ∙ ap (λ (y : List ℤ). get_or y k (pos 0)) f ∙ get_or-take at mem k (pos 0) p
-
--- a place beyond what was written stays
-pub beyond_kept : (at w k : ℕ) (mem xs mem' : List ℤ) → length xs ≡ w → at + w ≤ length mem → mem' ≡ take at mem ++ (xs ++ drop (at + w) mem) → at + w ≤ k → get_or mem' k (pos 0) ≡ get_or mem k (pos 0)
-beyond_kept at w k mem xs mem' e h m p =
-    let l : length (take at mem ++ xs) ≡ at + w = length-append (take at mem) xs ∙ (let a = length-take-le at mem (omega arith) in omega arith) in
-    let f : drop (at + w) mem' ≡ drop (at + w) mem = ap (drop (at + w)) (m ∙ sym (append_assoc (take at mem) xs (drop (at + w) mem))) ∙ drop_at (take at mem ++ xs) (drop (at + w) mem) (at + w) l in
-    let j : at + w + (k - (at + w)) ≡ k = omega arith in
-    ap (λ (y : ℕ). get_or mem' y (pos 0)) (sym j)
-    ∙ (sym (get_or-drop (at + w) mem' (k - (at + w)) (pos 0)) ∙ ap (λ (y : List ℤ). get_or y (k - (at + w)) (pos 0)) f ∙ get_or-drop (at + w) mem (k - (at + w)) (pos 0))
-    ∙ ap (λ (y : ℕ). get_or mem y (pos 0)) j

@@ -1,7 +1,6 @@
 -- What follows from the rules of a recorder. Assumes nothing.
-use Rattle.std.proofs.Common.{◌≡◌, ℕ, zero, suc, ◌<◌, ◌≤◌, Bool, true, false, cond, eqb, ltb, List, [], ◌∷◌, length, get_or, ℤ, pos, negsuc, nat_abs, refl, ⊎_elim, arith}
-use lib.Signed.{lt_z}
-use Rattle.std.proofs.lemmas.Bool.{cases_lt}
+use Rattle.std.proofs.Common.{◌≡◌, ℕ, zero, suc, ◌<◌, ◌≤◌, true, ◌&&◌, eqb, ltb, List, [], ◌∷◌, length, get_or, ℤ, pos, nat_abs, refl, ⊎_elim, arith}
+use Rattle.std.proofs.lemmas.Bool.{and_parts, cases_lt}
 use Rattle.record.specs.Rules.{Allowed, allowed_width, small, all_small, fitting}
 
 -- a width that passes the test is from 1 to 16
@@ -19,39 +18,13 @@ fits_of room width xs p q s =
     let b : eqb (length xs) width ≡ true = grind arith in
     rw (a, b, s)
 
--- a test in three steps passes where all steps do
-parts : (a b c : Bool) → cond a (cond b c false) false ≡ true → (a ≡ true) × (b ≡ true) × (c ≡ true)
-parts true true c e = (refl, refl, e)
-parts true false c e = let z : ◌≡◌ {A = ℕ} 0 1 = cc in absurd (omega arith)
-parts false b c e = let z : ◌≡◌ {A = ℕ} 0 1 = cc in absurd (omega arith)
-
 -- a state that is taken had room, had the width, and is of small values
 pub of_fits : (room width : ℕ) (xs : List ℤ) → fitting room width xs ≡ true → (0 < room) × (length xs ≡ width) × (all_small xs ≡ true)
-of_fits room width xs e = let p = parts (ltb 0 room) (eqb (length xs) width) (all_small xs) e in (grind arith, grind arith, p.2)
-
--- a value that is neither too low nor too high is small
-pub small_of : (z : ℤ) → lt_z z (negsuc 999999) ≡ false → lt_z (pos 1000000) z ≡ false → small z ≡ true
-small_of (pos n) a b = grind arith
-small_of (negsuc n) a b = grind arith
-
--- a value that is too low is not
-pub low_not : (z : ℤ) → lt_z z (negsuc 999999) ≡ true → small z ≡ false
-low_not (pos n) a = let e : ◌≡◌ {A = ℕ} 0 1 = cc in absurd (omega arith)
-low_not (negsuc n) a = grind arith
-
--- nor is one that is too high
-pub high_not : (z : ℤ) → lt_z (pos 1000000) z ≡ true → small z ≡ false
-high_not (pos n) a = grind arith
-high_not (negsuc n) a = let e : ◌≡◌ {A = ℕ} 0 1 = cc in absurd (omega arith)
+of_fits room width xs e = let p = and_parts (ltb 0 room && eqb (length xs) width) (all_small xs) e in let q = and_parts (ltb 0 room) (eqb (length xs) width) p.0 in (grind arith, grind arith, p.1)
 
 -- one small value more
 pub small_more : (x : ℤ) (xs : List ℤ) → nat_abs x ≤ 1000000 → all_small xs ≡ true → all_small (x ∷ xs) ≡ true
 small_more x xs h e = let a : small x ≡ true = grind arith in rw (a, e)
-
--- a test in two steps passes where both steps do
-two : (a b : Bool) → cond a b false ≡ true → (a ≡ true) × (b ≡ true)
-two true b e = (refl, e)
-two false b e = let z : ◌≡◌ {A = ℕ} 0 1 = cc in absurd (omega arith)
 
 -- values that are small one by one
 pub small_each : (xs : List ℤ) → ((k : ℕ) → k < length xs → nat_abs (get_or xs k (pos 0)) ≤ 1000000) → all_small xs ≡ true
@@ -61,8 +34,8 @@ small_each (x ∷ xs) h = small_more x xs (h 0 (omega arith)) (small_each xs (λ
 -- small values, one by one
 pub each_small : (xs : List ℤ) → all_small xs ≡ true → (k : ℕ) → k < length xs → nat_abs (get_or xs k (pos 0)) ≤ 1000000
 each_small [] e k p = omega arith
-each_small (x ∷ xs) e zero p = let h = two (small x) (all_small xs) e in grind arith
-each_small (x ∷ xs) e (suc k) p = each_small xs (two (small x) (all_small xs) e).1 k (omega arith)
+each_small (x ∷ xs) e zero p = let h = and_parts (small x) (all_small xs) e in grind arith
+each_small (x ∷ xs) e (suc k) p = each_small xs (and_parts (small x) (all_small xs) e).1 k (omega arith)
 
 -- a denied state leaves each place of the lent memory as it was
 pub denied_cells : (before after : ℕ → ℤ) (m n : ℕ) → n ≡ m → ((k : ℕ) → k < m → after k ≡ before k) → ((k : ℕ) → n ≤ k → after k ≡ before k) → (k : ℕ) → after k ≡ before k

@@ -1,6 +1,6 @@
 -- The rules that every kind of recorder keeps. Assumes nothing.
-use Rattle.std.specs.Prelude.{ℕ, ◌≤◌, min, Bool, true, false, cond, List, [], ◌∷◌, length, ℤ, Some, None, Option, ◌==◌, nat_le, nat_lt, unsigned_abs}
-use Rattle.std.specs.List.{slice_get}
+use Rattle.std.specs.Prelude.{ℕ, ◌≤◌, min, Bool, ◌&&◌, List, length, ℤ, Some, None, Option, ◌==◌, nat_le, nat_lt, unsigned_abs}
+use Rattle.std.specs.List.{list_all, slice_get}
 
 -- the most numbers to a state
 abbrev pub most_width : ℕ
@@ -20,7 +20,7 @@ Allowed width = (1 ≤ width) × (width ≤ most_width)
 
 -- whether a width is allowed
 abbrev pub allowed_width : ℕ → Bool
-allowed_width width = cond (nat_le 1 width) (nat_le width most_width) false
+allowed_width width = nat_le 1 width && nat_le width most_width
 
 -- a number of states, cut at the most that any recorder takes
 abbrev pub cut : ℕ → ℕ
@@ -36,12 +36,11 @@ small z = nat_le (unsigned_abs z) most_value
 
 -- whether each value may be recorded
 abbrev pub all_small : List ℤ → Bool
-all_small [] = true
-all_small (x ∷ xs) = cond (small x) (all_small xs) false
+all_small = list_all small
 
 -- whether a state is taken, by the room and the width
 abbrev pub fitting : ℕ → ℕ → List ℤ → Bool
-fitting room width xs = cond (nat_lt 0 room) (cond (length xs == width) (all_small xs) false) false
+fitting room width xs = nat_lt 0 room && length xs == width && all_small xs
 
 -- the value of a variable in a state, where there is such a state
 abbrev pub within : Option (List ℤ) → ℕ → Option ℤ

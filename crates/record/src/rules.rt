@@ -15,17 +15,14 @@ pub const MOST_VALUE: i64 = 1_000_000;
 pub fn allowed_width(width: usize) -> bool
     ensures { result ≡ allowed_width width }
 {
-    width >= 1 && width <= MOST_WIDTH
+    (1..=MOST_WIDTH).contains(&width)
 }
 
 // Whether each value may be recorded.
 pub fn all_small(values: &[i64]) -> bool
     ensures { result ≡ all_small values.now }
 {
-    for value in values {
-        if *value < -MOST_VALUE || *value > MOST_VALUE {
-            return false;
-        }
-    }
-    true
+    values
+        .iter()
+        .all(|value| (-MOST_VALUE..=MOST_VALUE).contains(value))
 }

@@ -7,6 +7,7 @@ use crate::recorder::Recorder;
 use crate::rules::{MOST_STATES, all_small, allowed_width};
 
 // A recorder that writes state k from place k * width of its memory on, and looks it up there.
+// The memory is lent and its count and room stand beside it, since a recorder has no heap to hold a `Vec`.
 #[derive(Drop)]
 pub struct TableRecorder<'a> {
     memory: &'a mut [i64],
@@ -79,9 +80,7 @@ impl<'a> Recorder for TableRecorder<'a> {
             return false;
         }
         let at = self.count * self.width;
-        for j in 0..state.len() {
-            self.memory[at + j] = state[j];
-        }
+        self.memory[at..at + self.width].copy_from_slice(state);
         self.count += 1;
         self.room -= 1;
         true

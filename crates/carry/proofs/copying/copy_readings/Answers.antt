@@ -1,27 +1,20 @@
 -- The front of the values is the state of the readings.
-use Rattle.std.proofs.Common.{◌≡◌, ℕ, ◌-◌, cond, List, [], ◌∷◌, ◌++◌, take, drop, ℤ, ap, ◌∙◌, arith}
-use Rattle.record.specs.Rules.{fitting}
+use Rattle.std.proofs.Common.{◌≡◌, ℕ, take, pos, ap, ◌∙◌, arith, rules, tests}
 use Rattle.carry.specs.Carried.{or_zero, read_state}
-use Rattle.carry.proofs.Fillings.{front_by}
+use Rattle.carry.proofs.Fillings.{made_front}
+use Rattle.carry.proofs.copying.copy_readings.Given.{Over}
 use Rattle.carry.proofs.copying.copy_readings.Goals as goal
 
-pub returns : goal.returns
-returns g c =
-    let R = g.R.Recorder in
+-- the values that are offered
+offered : (g : Over) (c : goal.After-take g) → take c.width-width.result c.from_fn-values.result ≡ read_state (g.F.Feed.readings c.args.feed.now) c.args.state (g.R.Recorder.breadth c.args.recorder.now)
+offered g c =
     let rd = g.F.Feed.readings c.args.feed.now in
-    let k = c.args.state in
-    let w = R.breadth c.args.recorder.now in
-    let t = c.take.ensures in
-    let e : c.width-width.result ≡ w = c.width-width.ensures.answer in
-    let front : take (c.width-width.result - 0) (drop 0 c.loop-variable.values) ≡ read_state rd k w =
-    let n : c.width-width.result - 0 ≡ w = omega (arith, e) in
-    ap (λ (y : ℕ). take y c.loop-variable.values) n ∙ front_by (λ (v : ℕ). or_zero (rd v k)) c.loop-variable.values w (omega (arith, c.loop-variable.invariant.0, c.width-width.ensures.allowed)) (λ j p. c.loop-variable.invariant.1 j (omega (arith, e))) in
-    record {
-      answer = t.answer ∙ ap (fitting (R.spare c.args.recorder.now) w) front;
-      listed = t.listed ∙ ap (λ (y : List ℤ). cond c.take.result (R.states c.args.recorder.now ++ y ∷ []) (R.states c.args.recorder.now)) front;
-      wide = t.wide;
-      roomy = t.roomy;
-      fixed = t.fixed;
-      held = t.held;
-      untouched = t.untouched;
-    }
+    let w = c.width-width.ensures in
+    made_front _ (λ (v : ℕ). or_zero (rd v c.args.state)) _ c.from_fn-values.result (pos 0) c.width-width.result 16 (omega (arith, w.answer, w.allowed)) (λ x y q r. (search (rules, tests), λ p. search (rules, tests))) c.from_fn-values.ensures.items
+    ∙ ap (read_state rd c.args.state) w.answer
+
+pub returns-clause-answer : goal.returns-clause-answer
+returns-clause-answer g c = let e = offered g c in search rules
+
+pub returns-clause-listed : goal.returns-clause-listed
+returns-clause-listed g c = let e = offered g c in search rules

@@ -1,28 +1,18 @@
--- What the search finds is the first record, and in the ranges that is the reading.
-use Rattle.std.proofs.Common.{get_or, ℤ, Some, None, ap, ◌∙◌, arith, w64, SFits, rules}
-use Rattle.std.proofs.lemmas.Int.{to_z-of_z}
-use Rattle.feed.specs.Lists.{first}
-use Rattle.feed.proofs.Records.{wanted, first_found, in_range_same, in_range_none}
+-- What is found is the number of the first record, and in the ranges that is the reading.
+use Rattle.std.proofs.Common.{◌≡◌, ap, ◌∙◌, Bor, true, rules, tests, arith}
+use Rattle.std.specs.Option.{option_map}
+use Rattle.std.proofs.lemmas.Iterator.{YieldsList-from_slice}
+use Rattle.std.proofs.lemmas.Iterator.Search.{find_from_yields_List}
+use Rattle.feed.specs.declared.list.Reading.{Reading}
+use Rattle.feed.specs.Readings.{ranged}
+use Rattle.feed.specs.Lists.{first, matches}
 use Rattle.feed.proofs.list.ListFeedFeed.reading.Goals as goal
 
-pub returns-in-Some : goal.returns-in-Some
-returns-in-Some c =
+pub returns : goal.returns
+returns c =
     let rs = c.args.self.now.list.now in
-    let v = c.args.variable in
-    let k = c.args.state in
-    let d = wanted 0 0 in
-    let f : SFits w64 (get_or rs c.in-Some.place d).number = search rules in
-    record {
-      answer = ap (λ (y : ℤ). Some y) (to_z-of_z w64 _ f) ∙ first_found rs d v k (Some c.in-Some.place) c.in-Some.ensures ∙ in_range_same v k (first rs v k) (omega arith) (omega arith);
-      elsewhere = λ x y e. in_range_none x y (first rs x y) e;
-    }
-
-pub returns-in-None : goal.returns-in-None
-returns-in-None c =
-    let rs = c.args.self.now.list.now in
-    let v = c.args.variable in
-    let k = c.args.state in
-    record {
-      answer = first_found rs (wanted 0 0) v k None c.in-None.ensures ∙ in_range_same v k (first rs v k) (omega arith) (omega arith);
-      elsewhere = λ x y e. in_range_none x y (first rs x y) e;
-    }
+    let f = find_from_yields_List (matches c.args.variable c.args.state) _ _ c.find.result c.find.ensures.ran (YieldsList-from_slice rs cc) (λ x b q k. search (rules, tests)) in
+    let h : c.map.result ≡ option_map (λ (r : Reading). r.number) (option_map (λ (r : Bor Reading). r.now) c.find.result) = search rules in
+    let e : c.map.result ≡ first rs c.args.variable c.args.state = h ∙ ap (option_map (λ (r : Reading). r.number)) f in
+    let r : ranged c.args.variable c.args.state ≡ true = grind arith in
+    search rules
