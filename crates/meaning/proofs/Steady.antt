@@ -7,7 +7,6 @@ use Rattle.value.specs.declared.parts.End.{End}
 use Rattle.value.specs.declared.parts.End.TheVariants.{Unknown, On, Last}
 use Rattle.value.proofs.Numbers.{Agrees}
 use Rattle.meaning.specs.declared.parts.LeftOpen.{LeftOpen}
-use Rattle.meaning.specs.declared.parts.LeftOpen.TheVariants as LeftOpen
 use Rattle.meaning.specs.declared.parts.Span.{Span}
 use Rattle.meaning.specs.Intervals.{Setting, width}
 use Rattle.meaning.specs.Work.{Work, Outcome, stops, goes}
@@ -48,7 +47,7 @@ lowest_none f y (suc n) o e = by (f y) refl e (lowest_none f (suc y) n o)
   where
     by : (q : Option ℤ) → f y ≡ q → lowest_by q y (lowest_unknown f (suc y) n o) ≡ None → (lowest_unknown f (suc y) n o ≡ None → ((x : ℕ) → suc y ≤ x → x < suc y + n → IsGiven (f x)) × (o ≡ None))
         → ((x : ℕ) → y ≤ x → x < y + suc n → IsGiven (f x)) × (o ≡ None)
-    by None p e ih = absurd (none_some y (sym e))
+    by None p e ih = absurd (none_some (LeftOpen.Variable y) (sym e))
     by (Some v) p e ih = let r = ih e in ((λ x a b. at x a b (ℕ_discrete y x) r.0), r.1)
       where
         at : (x : ℕ) → y ≤ x → x < y + suc n → Dec (y ≡ x) → ((x : ℕ) → suc y ≤ x → x < suc y + n → IsGiven (f x)) → IsGiven (f x)

@@ -11,7 +11,6 @@ use Rattle.value.specs.declared.parts.End.TheVariants.{Unknown, On, Last}
 use Rattle.value.specs.Values.{in_range}
 use Rattle.value.proofs.Numbers.{Agrees}
 use Rattle.meaning.specs.declared.parts.LeftOpen.{LeftOpen}
-use Rattle.meaning.specs.declared.parts.LeftOpen.TheVariants as LeftOpen
 use Rattle.meaning.specs.declared.parts.Stop.{Stop}
 use Rattle.meaning.specs.declared.parts.Stop.TheVariants.{Contradiction, Undetermined, Crowded}
 use Rattle.meaning.specs.Intervals.{Setting, width, statement_at, fits, value_in, States}

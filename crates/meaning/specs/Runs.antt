@@ -6,7 +6,6 @@ use Rattle.value.specs.declared.parts.End.{End}
 use Rattle.value.specs.declared.parts.End.TheVariants.{Unknown, On, Last}
 use Rattle.meaning.specs.declared.parts.Duty.{Duty}
 use Rattle.meaning.specs.declared.parts.LeftOpen.{LeftOpen}
-use Rattle.meaning.specs.declared.parts.LeftOpen.TheVariants as LeftOpen
 use Rattle.meaning.specs.declared.parts.LeftOpen.TheVariants.{Variable}
 use Rattle.meaning.specs.declared.parts.Span.{Span}
 use Rattle.meaning.specs.declared.parts.Stop.{Stop}
