@@ -6,7 +6,7 @@ ghost use Rattle.text.specs.Decimals.{natural_of, number_of};
 pub fn natural(word: &[u8], limit: u32) -> Option<u32>
     ensures { result ≡ natural_of limit word.now }
 {
-    if word.len() == 0 {
+    if word.is_empty() {
         return None;
     }
     if word[0] == b'0' && word.len() > 1 {
@@ -14,7 +14,7 @@ pub fn natural(word: &[u8], limit: u32) -> Option<u32>
     }
     let mut n = 0u64;
     for digit in word {
-        if *digit < b'0' || *digit > b'9' {
+        if !digit.is_ascii_digit() {
             return None;
         }
         n = n * 10 + (*digit - b'0') as u64;
@@ -29,18 +29,14 @@ pub fn natural(word: &[u8], limit: u32) -> Option<u32>
 pub const MOST: u32 = 1_000_000;
 
 // The number from minus a million to a million that `word` writes, or none.
+#[tactic(auto, using(crate::proofs::Numbers::unsigned))]
 pub fn number(word: &[u8]) -> Option<i32>
     ensures { result ≡ number_of 1000000 word.now }
 {
-    if word.len() > 0 && word[0] == b'-' {
-        match natural(&word[1..], MOST) {
-            None => None,
-            Some(n) => if n == 0 { None } else { Some(-(n as i32)) },
-        }
-    } else {
-        match natural(word, MOST) {
-            None => None,
-            Some(n) => Some(n as i32),
-        }
+    match word.strip_prefix(b"-") {
+        Some(digits) => natural(digits, MOST)
+            .filter(|n| *n != 0)
+            .map(|n| -n.cast_signed()),
+        None => natural(word, MOST).map(|n| n.cast_signed()),
     }
 }

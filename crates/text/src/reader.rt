@@ -1,7 +1,7 @@
 // A text is read from its start to its end, by cutting parts off it. Nothing is copied.
-ghost use Rattle.std.specs.Prelude.{◌≡◌, ◌==◌, position};
+ghost use Rattle.std.specs.Prelude.{◌≡◌, ◌<◌, ◌≤◌, ◌==◌, length, drop, position, MatchOption};
 ghost use Rattle.std.specs.Str.{bytes_eq};
-ghost use Rattle.text.specs.Cut.{Handed, KeyAt};
+ghost use Rattle.text.specs.Cut.{PartAt, Handed, KeyAt};
 
 // A text with the place that was reached in it. It hands out lines, keys and words as parts of the text itself.
 #[derive(Drop)]
@@ -40,15 +40,9 @@ impl<'a> Reader<'a> {
         ensures text { self.new.text ≡ self.old.text }
         ensures cases { KeyAt self.old.text self.old.place self.new.place result }
     {
-        let text = self.text;
-        let from = self.place;
-        // not `get`: its contract doesn't say that the part lies in the text itself
-        if from > text.len() {
-            return None;
-        }
-        let rest = &text[from..];
+        let rest = self.rest()?;
         let length = find_stop(rest, b'=')?;
-        self.place = from + length + 1;
+        self.place += length + 1;
         Some(&rest[..length])
     }
 
@@ -57,16 +51,22 @@ impl<'a> Reader<'a> {
         ensures text { self.new.text ≡ self.old.text }
         ensures cases { Handed stop self.old.text self.old.place self.new.place result }
     {
-        let text = self.text;
-        let from = self.place;
-        // not `get`: its contract doesn't say that the part lies in the text itself
-        if from > text.len() {
-            return None;
-        }
-        let rest = &text[from..];
+        let rest = self.rest()?;
         let length = find_stop(rest, stop).unwrap_or(rest.len());
-        self.place = from + length + 1;
+        self.place += length + 1;
         Some(&rest[..length])
+    }
+
+    // What is left from the place on. None where the place is past the end.
+    fn rest(&self) -> Option<&'a [u8]>
+        ensures { MatchOption result (length self.now.text.now < self.now.place) (λ r. (self.now.place ≤ length self.now.text.now) × PartAt self.now.text r self.now.place (drop self.now.place self.now.text.now)) }
+    {
+        // not `get`, whose contract doesn't say that the part lies in the text itself
+        if self.place <= self.text.len() {
+            Some(&self.text[self.place..])
+        } else {
+            None
+        }
     }
 }
 
