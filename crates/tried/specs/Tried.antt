@@ -6,6 +6,7 @@ use Rattle.sheet.specs.Content.{Content}
 use Rattle.sheet.specs.Writing.{ended}
 use Rattle.verdict.specs.Verdict.{verdict}
 use Rattle.meaning.specs.declared.parts.Stop.{Stop}
+use Rattle.meaning.specs.declared.parts.LeftOpen.TheVariants.{Variable}
 use Rattle.meaning.specs.declared.parts.Stop.TheVariants.{Contradiction, Undetermined}
 use Rattle.meaning.specs.Intervals.{Setting, under}
 use Rattle.meaning.specs.Runs.{Finished, Stopped}
@@ -82,7 +83,7 @@ out_of_range = record {
 
 -- `true` says nothing of a: its number is open, though its range has only one
 unfoldable pub unsaid : Trial
-unsaid = record { lines = codes "sheet=2" ∷ codes "var=a 0 0" ∷ codes "stmt=true" ∷ codes "run=0" ∷ []; states = []; ending = meets (Undetermined 0) }
+unsaid = record { lines = codes "sheet=2" ∷ codes "var=a 0 0" ∷ codes "stmt=true" ∷ codes "run=0" ∷ []; states = []; ending = meets (Undetermined (Variable 0)) }
 
 -- `empty` and `more` contradict each other, at the second of them
 unfoldable pub both_ends : Trial
