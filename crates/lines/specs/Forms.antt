@@ -1,6 +1,6 @@
 -- Operations: their words, what their operands stand for, and what they make of them. Assumes nothing.
 -- An operation is given as an expression or a statement whose operands are 0.
-use Rattle.std.specs.Prelude.{ℕ, cond, List, Some, None, codes, Option}
+use Rattle.std.specs.Prelude.{ℕ, if◌then◌else◌, List, Some, None, codes, Option}
 use Rattle.std.specs.Str.{bytes_eq}
 use Rattle.sheet.specs.declared.parts.Operator.TheVariants as Operator
 use Rattle.sheet.specs.declared.parts.Expression.{Expression}
@@ -12,14 +12,15 @@ use Rattle.lines.specs.declared.items.Role.{Role}
 use Rattle.lines.specs.declared.items.Roles.{Roles}
 use Rattle.lines.specs.declared.items.Operands.{Operands}
 
--- x where w is the word v, else what comes after
+-- x where w is the word v, else y
 abbrev pub when : {X : Type 0} → List ℕ → List ℕ → X → X → X
-when w v x else = cond (bytes_eq w v) x else
+when w v x y = if bytes_eq w v then x else y
 
-abbrev pub keyword_of : List ℕ → Keyword
+-- the key that a word names
+abbrev pub keyword_of : List ℕ → Option Keyword
 keyword_of w =
-    when w (codes "stmt") Keyword.Stmt (when w (codes "expr") Keyword.Expr (when w (codes "var") Keyword.Var
-    (when w (codes "run") Keyword.Run (when w (codes "sheet") Keyword.Sheet Keyword.Unknown))))
+    when w (codes "stmt") (Some Keyword.Stmt) (when w (codes "expr") (Some Keyword.Expr) (when w (codes "var") (Some Keyword.Var)
+    (when w (codes "run") (Some Keyword.Run) (when w (codes "sheet") (Some Keyword.Sheet) None))))
 
 -- expressions with no operand, with one, with two (`num` is apart, since its operand is no place)
 abbrev pub bare_expression : List ℕ → Option Expression

@@ -1,5 +1,5 @@
 -- What a line says after those before it, or its fault: the faults are looked for in the order of their numbers. Assumes nothing.
-use Rattle.std.specs.Prelude.{◌≡◌, ℕ, ◌<◌, Bool, true, false, cond, not, ◌&&◌, List, [], ◌∷◌, length, ℤ, is_some, Some, None, Ok, Err, codes, Option, Result, ◌==◌, int_le, nat_le, nat_lt}
+use Rattle.std.specs.Prelude.{◌≡◌, ℕ, ◌<◌, Bool, true, cond, not, ◌&&◌, List, [], ◌∷◌, length, ℤ, is_some, Some, None, Ok, Err, codes, Option, Result, ◌==◌, int_le, nat_le, nat_lt}
 use Rattle.std.specs.Option.{ok_or}
 use Rattle.std.specs.Str.{bytes_eq}
 use Rattle.text.specs.Cut.{before, after, parted}
@@ -17,7 +17,7 @@ use Rattle.lines.specs.declared.items.Role.{Role}
 use Rattle.lines.specs.declared.items.Roles.{Roles}
 use Rattle.lines.specs.declared.items.Operands.{Operands}
 use Rattle.lines.specs.declared.items.Words.{Words}
-use Rattle.lines.specs.declared.items.Words.TheVariants.{One, Two, Three, Four, More}
+use Rattle.lines.specs.declared.items.Words.TheVariants.{One, Two, Three, Four}
 use Rattle.drafts.specs.Said.{Said}
 use Rattle.lines.specs.Forms.{keyword_of, bare_expression, single_expression, double_expression, bare_statement, single_statement, double_statement, triple_statement, expression_roles, statement_roles, expression_with, statement_with}
 
@@ -26,13 +26,17 @@ abbrev pub then : {A B E : Type 0} → Result A E → (A → Result B E) → Res
 then (Ok x) f = f x
 then (Err e) f = Err e
 
--- r has the words ws, where they are at most four
+-- r has the words ws
 abbrev pub Spells : Words → List (List ℕ) → Type 0
 Spells (One a) ws = ws ≡ a.now ∷ []
 Spells (Two a b) ws = ws ≡ a.now ∷ b.now ∷ []
 Spells (Three a b c) ws = ws ≡ a.now ∷ b.now ∷ c.now ∷ []
 Spells (Four a b c d) ws = ws ≡ a.now ∷ b.now ∷ c.now ∷ d.now ∷ []
-Spells More ws = 4 < length ws
+
+-- o has the words ws; there is none where they are more than four
+abbrev pub Cut : Option Words → List (List ℕ) → Type 0
+Cut None ws = 4 < length ws
+Cut (Some r) ws = Spells r ws
 
 -- a line with this key may stand here: no later key stood before, and neither `var` nor `stmt` is skipped
 abbrev pub allowed : Said → Keyword → Bool
@@ -41,7 +45,6 @@ allowed d Keyword.Var = length d.expressions == 0 && (length d.statements == 0 &
 allowed d Keyword.Expr = nat_lt 0 (length d.variables) && (length d.statements == 0 && not (is_some d.run))
 allowed d Keyword.Stmt = nat_lt 0 (length d.variables) && not (is_some d.run)
 allowed d Keyword.Run = nat_lt 0 (length d.variables) && nat_lt 0 (length d.statements)
-allowed d Keyword.Unknown = false
 
 -- there are already as many lines with this key as there may be
 abbrev pub full : Said → Keyword → Bool
@@ -50,7 +53,6 @@ full d Keyword.Var = nat_le 16 (length d.variables)
 full d Keyword.Expr = nat_le 200 (length d.expressions)
 full d Keyword.Stmt = nat_le 200 (length d.statements)
 full d Keyword.Run = is_some d.run
-full d Keyword.Unknown = false
 
 -- the number that an operand's word writes: 0 to 199
 abbrev pub numeral : ℕ → Role → List ℕ → Result ℕ Fault
@@ -154,15 +156,21 @@ item_of d Keyword.Var ws = variable_of d ws
 item_of d Keyword.Expr ws = expression_of d ws
 item_of d Keyword.Stmt ws = statement_of d ws
 item_of d Keyword.Run ws = run_of d ws
-item_of d Keyword.Unknown ws = Err Fault.Key
 
 -- that a line with this key may come
 abbrev pub admitted : Said → Keyword → Result Keyword Fault
 admitted d k = cond (allowed d k) (cond (full d k) (Err Fault.Many) (Ok k)) (Err Fault.Key)
 
+-- the key of a line, which stands ahead of its first `=`
+abbrev pub key_in : List ℕ → Option Keyword
+key_in l = cond (length (before 61 l) == length l) None (keyword_of (before 61 l))
+
+-- the words of a line, behind that `=` and parted by spaces
+abbrev pub words_in : List ℕ → List (List ℕ)
+words_in l = parted 32 (after 61 l)
+
 -- what the line l says after those before it
 abbrev pub line_of : Said → List ℕ → Result Item Fault
 line_of d l =
     cond (nat_lt 64 (length l)) (Err Fault.Long)
-    (cond (length (before 61 l) == length l) (Err Fault.Key)
-    (then (admitted d (keyword_of (before 61 l))) (λ k. item_of d k (parted 32 (after 61 l)))))
+    (then (ok_or (key_in l) Fault.Key) (λ k. then (admitted d k) (λ k. item_of d k (words_in l))))

@@ -7,21 +7,22 @@ use crate::items::Keyword;
 use sheet::{Expression, Operator, Statement};
 use text::same;
 
-pub(crate) fn keyword(word: &[u8]) -> Keyword
+// The key that a word names.
+pub(crate) fn keyword(word: &[u8]) -> Option<Keyword>
     ensures { result ≡ keyword_of word.now }
 {
     if same(word, b"stmt") {
-        Keyword::Stmt
+        Some(Keyword::Stmt)
     } else if same(word, b"expr") {
-        Keyword::Expr
+        Some(Keyword::Expr)
     } else if same(word, b"var") {
-        Keyword::Var
+        Some(Keyword::Var)
     } else if same(word, b"run") {
-        Keyword::Run
+        Some(Keyword::Run)
     } else if same(word, b"sheet") {
-        Keyword::Sheet
+        Some(Keyword::Sheet)
     } else {
-        Keyword::Unknown
+        None
     }
 }
 

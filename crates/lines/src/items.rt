@@ -29,7 +29,6 @@ pub enum Keyword {
     Expr,
     Stmt,
     Run,
-    Unknown,
 }
 
 // What an operand's word stands for. `Absent` is that of a word that is not there.
@@ -57,12 +56,11 @@ pub struct Operands {
     pub third: u16,
 }
 
-// The words of a line, parts of the line itself, where there are one to four.
+// The words of a line, one to four, as parts of the line itself.
 #[derive(Clone, Copy)]
 pub enum Words<'a> {
     One(&'a [u8]),
     Two(&'a [u8], &'a [u8]),
     Three(&'a [u8], &'a [u8], &'a [u8]),
     Four(&'a [u8], &'a [u8], &'a [u8], &'a [u8]),
-    More,
 }

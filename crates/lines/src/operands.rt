@@ -15,10 +15,10 @@ pub(crate) fn read_numeral(at: u8, role: Role, word: &[u8]) -> Result<u16, Fault
 {
     match role {
         Role::Absent | Role::Variable => Ok(0),
-        Role::Expression | Role::Statement => match text::natural(word, MOST_OPERAND) {
-            Some(n) => Ok(n as u16),
-            None => Err(Fault::Number(at)),
-        },
+        Role::Expression | Role::Statement => {
+            let n = text::natural(word, MOST_OPERAND).ok_or(Fault::Number(at))?;
+            Ok(n as u16)
+        }
     }
 }
 
@@ -29,13 +29,9 @@ pub(crate) fn resolve(draft: &Draft, at: u8, role: Role, word: &[u8], n: u16) ->
     match role {
         Role::Absent | Role::Expression | Role::Statement => Ok(n),
         Role::Variable => {
-            let Some(name) = sheet::make_name(word) else {
-                return Err(Fault::Name(at));
-            };
-            match sheet::find_variable(&draft.tables.variables, name) {
-                Some(k) => Ok(k as u16),
-                None => Err(Fault::Name(at)),
-            }
+            let name = sheet::make_name(word).ok_or(Fault::Name(at))?;
+            let k = sheet::find_variable(&draft.tables.variables, name).ok_or(Fault::Name(at))?;
+            Ok(k as u16)
         }
     }
 }
@@ -49,7 +45,7 @@ pub(crate) fn look_there(draft: &Draft, at: u8, role: Role, n: u16) -> Result<u1
         Role::Expression => draft.tables.expressions.len(),
         Role::Statement => draft.tables.statements.len(),
     };
-    if (n as usize) < count {
+    if usize::from(n) < count {
         Ok(n)
     } else {
         Err(Fault::Operand(at))

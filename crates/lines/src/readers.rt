@@ -66,10 +66,8 @@ fn make_statement(
 fn read_constant(draft: &Draft, word: &[u8]) -> Result<Item, Fault>
     ensures { result ≡ constant (said draft.now) word.now }
 {
-    match text::number(word) {
-        Some(n) => with_size(draft, Expression::Num(n)),
-        None => Err(Fault::Number(2)),
-    }
+    let n = text::number(word).ok_or(Fault::Number(2))?;
+    with_size(draft, Expression::Num(n))
 }
 
 // An `expr` line.
@@ -86,7 +84,7 @@ fn read_expression(draft: &Draft, words: Words) -> Result<Item, Fault>
             }
         }
         Words::Three(op, a, b) => make_expression(draft, forms::double_expression(op), a, b),
-        Words::Four(_, _, _, _) | Words::More => Err(Fault::Form),
+        Words::Four(_, _, _, _) => Err(Fault::Form),
     }
 }
 
@@ -99,7 +97,6 @@ fn read_statement(draft: &Draft, words: Words) -> Result<Item, Fault>
         Words::Two(op, a) => make_statement(draft, forms::single_statement(op), a, b"", b""),
         Words::Three(op, a, b) => make_statement(draft, forms::double_statement(op), a, b, b""),
         Words::Four(op, a, b, c) => make_statement(draft, forms::triple_statement(op), a, b, c),
-        Words::More => Err(Fault::Form),
     }
 }
 
@@ -107,10 +104,7 @@ fn read_statement(draft: &Draft, words: Words) -> Result<Item, Fault>
 fn read_bound(at: u8, word: &[u8]) -> Result<i32, Fault>
     ensures { result ≡ bound at word.now }
 {
-    match text::number(word) {
-        Some(n) => Ok(n),
-        None => Err(Fault::Number(at)),
-    }
+    text::number(word).ok_or(Fault::Number(at))
 }
 
 // HIGH, which is not below LOW.
@@ -128,9 +122,7 @@ fn upward_from(low: i32, high: i32) -> Result<i32, Fault>
 fn fresh_name(draft: &Draft, word: &[u8]) -> Result<Name, Fault>
     ensures { result ≡ fresh (said draft.now) word.now }
 {
-    let Some(name) = sheet::make_name(word) else {
-        return Err(Fault::Name(1));
-    };
+    let name = sheet::make_name(word).ok_or(Fault::Name(1))?;
     match sheet::find_variable(&draft.tables.variables, name) {
         Some(_) => Err(Fault::Name(1)),
         None => Ok(name),
@@ -178,7 +170,6 @@ fn may_stand(draft: &Draft, key: Keyword) -> bool
             && draft.run.is_none(),
         Keyword::Stmt => tables.variables.len() > 0 && draft.run.is_none(),
         Keyword::Run => tables.variables.len() > 0 && tables.statements.len() > 0,
-        Keyword::Unknown => false,
     }
 }
 
@@ -192,7 +183,6 @@ fn is_full(draft: &Draft, key: Keyword) -> bool
         Keyword::Expr => draft.tables.expressions.len() >= sheet::MOST_EXPRESSIONS,
         Keyword::Stmt => draft.tables.statements.len() >= sheet::MOST_STATEMENTS,
         Keyword::Run => draft.run.is_some(),
-        Keyword::Unknown => false,
     }
 }
 
@@ -219,7 +209,6 @@ fn read_item(draft: &Draft, key: Keyword, words: Words) -> Result<Item, Fault>
         Keyword::Expr => read_expression(draft, words),
         Keyword::Stmt => read_statement(draft, words),
         Keyword::Run => read_run(draft, words),
-        Keyword::Unknown => Err(Fault::Key),
     }
 }
 
@@ -234,6 +223,7 @@ pub fn read_line(draft: &Draft, line: &[u8]) -> Result<Item, Fault>
     let Some(word) = reader.key() else {
         return Err(Fault::Key);
     };
-    let key = admit(draft, forms::keyword(word))?;
-    read_item(draft, key, cut_words(&mut reader))
+    let key = admit(draft, forms::keyword(word).ok_or(Fault::Key)?)?;
+    let words = cut_words(&mut reader).ok_or(Fault::Form)?;
+    read_item(draft, key, words)
 }
