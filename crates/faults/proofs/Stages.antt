@@ -83,7 +83,7 @@ operands-tried d r x =
 abbrev pub Found : Said → Line → Result Item Fault → Type 0
 Found d x r = (v : Item) × (r ≡ tried (faulty d x) behind v)
 
-module _ (d : Said) (n : ℕ) (k : Keyword) where
+module _ (d : Said) (n : ℕ) (k : Option Keyword) where
   abbrev pub line : List (List ℕ) → Form → Line
   line ws x = record { bytes = n; key = k; words = ws; form = x }
 

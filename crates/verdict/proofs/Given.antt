@@ -158,11 +158,11 @@ admit_ok d k a f = cond-true (allowed d k) _ _ a ∙ cond-false (full d k) _ _ f
 abbrev pub Given : Said → Item → Type 0
 Given d x = (line_of d (line_text d.variables x) ≡ Ok x) × (lacks 10 (line_text d.variables x) ≡ true)
 
-line_whole : (d : Said) (l key v : List ℕ) (k : Keyword) (ws : List (List ℕ)) (x : Item) → before 61 l ≡ key → after 61 l ≡ v → length l ≤ 64 → length key < length l → keyword_of key ≡ k → allowed d k ≡ true → full d k ≡ false → parted 32 v ≡ ws → item_of d k ws ≡ Ok x → line_of d l ≡ Ok x
+line_whole : (d : Said) (l key v : List ℕ) (k : Keyword) (ws : List (List ℕ)) (x : Item) → before 61 l ≡ key → after 61 l ≡ v → length l ≤ 64 → length key < length l → keyword_of key ≡ Some k → allowed d k ≡ true → full d k ≡ false → parted 32 v ≡ ws → item_of d k ws ≡ Ok x → line_of d l ≡ Ok x
 line_whole d l key v k ws x b a short more kw al fu words item =
     cond-false (ltb 64 (length l)) _ _ (le-ltb 64 _ short)
-    ∙ cond-false (eqb (length (before 61 l)) (length l)) _ _ (ne_eqb _ _ (λ q. omega (arith, ap length b)))
-    ∙ then_is _ k _ (ap (admitted d) (ap keyword_of b ∙ kw) ∙ admit_ok d k al fu)
+    ∙ then_is _ k _ (ap (λ o. ok_or o Fault.Key) (cond-false (eqb (length (before 61 l)) (length l)) _ _ (ne_eqb _ _ (λ q. omega (arith, ap length b))) ∙ ap keyword_of b ∙ kw))
+    ∙ then_is _ k _ (admit_ok d k al fu)
     ∙ ap (item_of d k) (ap (parted 32) a ∙ words) ∙ item
 
 empty_eqb : {X : Type 0} (xs : List X) → xs ≡ [] → eqb (length xs) 0 ≡ true
