@@ -1,7 +1,7 @@
 // What a line is made of, and what can be wrong with it.
 
 // What is wrong with a line. A number says which word of the line is meant, counted from 1 after the `=`.
-#[derive(Clone, Copy)]
+#[derive(Clone, Copy, Debug, PartialEq, Eq)]
 pub enum Fault {
     // the line has more than 64 bytes
     Long,
@@ -22,7 +22,7 @@ pub enum Fault {
 }
 
 // The key of a line.
-#[derive(Clone, Copy)]
+#[derive(Clone, Copy, Debug, PartialEq, Eq)]
 pub enum Keyword {
     Sheet,
     Var,
@@ -32,7 +32,7 @@ pub enum Keyword {
 }
 
 // What an operand's word stands for. `Absent` is that of a word that is not there.
-#[derive(Clone, Copy)]
+#[derive(Clone, Copy, Debug, PartialEq, Eq)]
 pub enum Role {
     Absent,
     Variable,
