@@ -69,7 +69,6 @@ misnumbered v w fresh = false
 misnumbered v w low = not (is_some (number_of 1000000 w))
 misnumbered v w high = not (is_some (number_of 1000000 w)) || not (int_le (signed_in v) (signed_in w))
 misnumbered v w constant = not (is_some (number_of 1000000 w))
-misnumbered v w (operand Role.Absent) = false
 misnumbered v w (operand Role.Variable) = false
 misnumbered v w (operand Role.Expression) = not (is_some (natural_of 199 w))
 misnumbered v w (operand Role.Statement) = not (is_some (natural_of 199 w))
@@ -81,7 +80,6 @@ misnamed d w fresh = not (is_some (name_of w)) || is_some (number_by d (name_of 
 misnamed d w low = false
 misnamed d w high = false
 misnamed d w constant = false
-misnamed d w (operand Role.Absent) = false
 misnamed d w (operand Role.Variable) = not (is_some (number_by d (name_of w)))
 misnamed d w (operand Role.Expression) = false
 misnamed d w (operand Role.Statement) = false
@@ -93,17 +91,16 @@ misplaced d w fresh = false
 misplaced d w low = false
 misplaced d w high = false
 misplaced d w constant = false
-misplaced d w (operand Role.Absent) = false
 misplaced d w (operand Role.Variable) = false
 misplaced d w (operand Role.Expression) = not (nat_lt (natural_in w) (length d.expressions))
 misplaced d w (operand Role.Statement) = not (nat_lt (natural_in w) (length d.statements))
 
 -- the operand that the word w tells; 0 where it tells none
-abbrev pub operand_in : Said → Role → List ℕ → ℕ
-operand_in d Role.Absent w = 0
-operand_in d Role.Variable w = unwrap_or (number_by d (name_of w)) 0
-operand_in d Role.Expression w = natural_in w
-operand_in d Role.Statement w = natural_in w
+abbrev pub operand_in : Said → Option Role → List ℕ → ℕ
+operand_in d None w = 0
+operand_in d (Some Role.Variable) w = unwrap_or (number_by d (name_of w)) 0
+operand_in d (Some Role.Expression) w = natural_in w
+operand_in d (Some Role.Statement) w = natural_in w
 
 -- the operands that words 2, 3 and 4 tell
 abbrev pub operands_in : Said → Roles → Line → Operands

@@ -98,9 +98,14 @@ pub data Stands : Type 0 where
   -- an operand
   operand : Role → Stands
 
+-- what a word with this role stands for, if it has one
+abbrev pub standing : Option Role → Stands
+standing None = nothing
+standing (Some r) = operand r
+
 -- what the words stand for where an operation has operands with the roles r
 abbrev pub operands_by : Roles → List Stands
-operands_by r = nothing ∷ operand r.first ∷ operand r.second ∷ operand r.third ∷ []
+operands_by r = nothing ∷ standing r.first ∷ standing r.second ∷ standing r.third ∷ []
 
 -- what the words of a line of this form stand for, from the first word on
 abbrev pub standings : Form → List Stands

@@ -55,35 +55,36 @@ double_statement w =
 abbrev pub triple_statement : List ℕ → Option Statement
 triple_statement w = when w (codes "if") (Some (If 0 0 0)) None
 
-abbrev pub roles : Role → Role → Role → Roles
+-- the roles of the words after an operation; none where there is no such word
+abbrev pub roles : Option Role → Option Role → Option Role → Roles
 roles a b c = record { first = a; second = b; third = c }
 
 -- what the operands of an expression stand for
 abbrev pub expression_roles : Expression → Roles
-expression_roles (Num c) = roles Role.Absent Role.Absent Role.Absent
-expression_roles (Val x) = roles Role.Variable Role.Absent Role.Absent
-expression_roles (Pair o a b) = roles Role.Expression Role.Expression Role.Absent
-expression_roles (Not a) = roles Role.Expression Role.Absent Role.Absent
-expression_roles Last = roles Role.Absent Role.Absent Role.Absent
+expression_roles (Num c) = roles None None None
+expression_roles (Val x) = roles (Some Role.Variable) None None
+expression_roles (Pair o a b) = roles (Some Role.Expression) (Some Role.Expression) None
+expression_roles (Not a) = roles (Some Role.Expression) None None
+expression_roles Last = roles None None None
 
 -- what the operands of a statement stand for
 abbrev pub statement_roles : Statement → Roles
-statement_roles True = roles Role.Absent Role.Absent Role.Absent
-statement_roles False = roles Role.Absent Role.Absent Role.Absent
-statement_roles Empty = roles Role.Absent Role.Absent Role.Absent
-statement_roles More = roles Role.Absent Role.Absent Role.Absent
-statement_roles (Is x e) = roles Role.Variable Role.Expression Role.Absent
-statement_roles (And p q) = roles Role.Statement Role.Statement Role.Absent
-statement_roles (If e p q) = roles Role.Expression Role.Statement Role.Statement
-statement_roles (Next p) = roles Role.Statement Role.Absent Role.Absent
-statement_roles (Always p) = roles Role.Statement Role.Absent Role.Absent
-statement_roles (Halt e) = roles Role.Expression Role.Absent Role.Absent
-statement_roles (Len e) = roles Role.Expression Role.Absent Role.Absent
-statement_roles (Gets x e) = roles Role.Variable Role.Expression Role.Absent
-statement_roles (Chop p q) = roles Role.Statement Role.Statement Role.Absent
-statement_roles (For e p) = roles Role.Expression Role.Statement Role.Absent
-statement_roles (While e p) = roles Role.Expression Role.Statement Role.Absent
-statement_roles (Request x) = roles Role.Variable Role.Absent Role.Absent
+statement_roles True = roles None None None
+statement_roles False = roles None None None
+statement_roles Empty = roles None None None
+statement_roles More = roles None None None
+statement_roles (Is x e) = roles (Some Role.Variable) (Some Role.Expression) None
+statement_roles (And p q) = roles (Some Role.Statement) (Some Role.Statement) None
+statement_roles (If e p q) = roles (Some Role.Expression) (Some Role.Statement) (Some Role.Statement)
+statement_roles (Next p) = roles (Some Role.Statement) None None
+statement_roles (Always p) = roles (Some Role.Statement) None None
+statement_roles (Halt e) = roles (Some Role.Expression) None None
+statement_roles (Len e) = roles (Some Role.Expression) None None
+statement_roles (Gets x e) = roles (Some Role.Variable) (Some Role.Expression) None
+statement_roles (Chop p q) = roles (Some Role.Statement) (Some Role.Statement) None
+statement_roles (For e p) = roles (Some Role.Expression) (Some Role.Statement) None
+statement_roles (While e p) = roles (Some Role.Expression) (Some Role.Statement) None
+statement_roles (Request x) = roles (Some Role.Variable) None None
 
 -- an expression with the operands o
 abbrev pub expression_with : Expression → Operands → Expression

@@ -55,11 +55,11 @@ full d Keyword.Stmt = nat_le 200 (length d.statements)
 full d Keyword.Run = is_some d.run
 
 -- the number that an operand's word writes: 0 to 199
-abbrev pub numeral : ℕ → Role → List ℕ → Result ℕ Fault
-numeral at Role.Absent w = Ok 0
-numeral at Role.Variable w = Ok 0
-numeral at Role.Expression w = ok_or (natural_of 199 w) (Fault.Number at)
-numeral at Role.Statement w = ok_or (natural_of 199 w) (Fault.Number at)
+abbrev pub numeral : ℕ → Option Role → List ℕ → Result ℕ Fault
+numeral at None w = Ok 0
+numeral at (Some Role.Variable) w = Ok 0
+numeral at (Some Role.Expression) w = ok_or (natural_of 199 w) (Fault.Number at)
+numeral at (Some Role.Statement) w = ok_or (natural_of 199 w) (Fault.Number at)
 
 -- the number of the variable with this name, if there is a name
 abbrev pub number_by : Said → Option Name → Option ℕ
@@ -67,18 +67,18 @@ number_by d None = None
 number_by d (Some n) = number_of_name d.variables n
 
 -- the number n, or that of the variable that an operand's word names
-abbrev pub resolved : Said → ℕ → Role → List ℕ → ℕ → Result ℕ Fault
-resolved d at Role.Absent w n = Ok n
-resolved d at Role.Variable w n = ok_or (number_by d (name_of w)) (Fault.Name at)
-resolved d at Role.Expression w n = Ok n
-resolved d at Role.Statement w n = Ok n
+abbrev pub resolved : Said → ℕ → Option Role → List ℕ → ℕ → Result ℕ Fault
+resolved d at None w n = Ok n
+resolved d at (Some Role.Variable) w n = ok_or (number_by d (name_of w)) (Fault.Name at)
+resolved d at (Some Role.Expression) w n = Ok n
+resolved d at (Some Role.Statement) w n = Ok n
 
 -- the number n, where an expression or a statement has it
-abbrev pub there : Said → ℕ → Role → ℕ → Result ℕ Fault
-there d at Role.Absent n = Ok n
-there d at Role.Variable n = Ok n
-there d at Role.Expression n = cond (nat_lt n (length d.expressions)) (Ok n) (Err (Fault.Operand at))
-there d at Role.Statement n = cond (nat_lt n (length d.statements)) (Ok n) (Err (Fault.Operand at))
+abbrev pub there : Said → ℕ → Option Role → ℕ → Result ℕ Fault
+there d at None n = Ok n
+there d at (Some Role.Variable) n = Ok n
+there d at (Some Role.Expression) n = cond (nat_lt n (length d.expressions)) (Ok n) (Err (Fault.Operand at))
+there d at (Some Role.Statement) n = cond (nat_lt n (length d.statements)) (Ok n) (Err (Fault.Operand at))
 
 -- the operands in the words a, b and c, which are the second, third and fourth of their line
 abbrev pub operands : Said → Roles → List ℕ → List ℕ → List ℕ → Result Operands Fault
@@ -92,13 +92,16 @@ operands d r a b c =
 abbrev pub sized : Said → Expression → Result Item Fault
 sized d e = cond (nat_le (size d.variables d.sizes e) 1000000000) (Ok (Item.Expression e (size d.variables d.sizes e))) (Err Fault.Size)
 
+-- an operation, if there is one, with the operands in the words a, b and c
+abbrev pub made : {X : Type 0} → (X → Roles) → (X → Operands → X) → Said → Option X → List ℕ → List ℕ → List ℕ → Result X Fault
+made roles with d None a b c = Err Fault.Form
+made roles with d (Some x) a b c = then (operands d (roles x) a b c) (λ o. Ok (with x o))
+
 abbrev pub expression_by : Said → Option Expression → List ℕ → List ℕ → List ℕ → Result Item Fault
-expression_by d None a b c = Err Fault.Form
-expression_by d (Some e) a b c = then (operands d (expression_roles e) a b c) (λ o. sized d (expression_with e o))
+expression_by d o a b c = then (made expression_roles expression_with d o a b c) (sized d)
 
 abbrev pub statement_by : Said → Option Statement → List ℕ → List ℕ → List ℕ → Result Item Fault
-statement_by d None a b c = Err Fault.Form
-statement_by d (Some s) a b c = then (operands d (statement_roles s) a b c) (λ o. Ok (Item.Statement (statement_with s o)))
+statement_by d o a b c = then (made statement_roles statement_with d o a b c) (λ s. Ok (Item.Statement s))
 
 -- `num C`
 abbrev pub constant : Said → List ℕ → Result Item Fault
@@ -146,7 +149,7 @@ variable_of d (n ∷ a ∷ b ∷ c ∷ ws) = Err Fault.Form
 -- a `run` line with the words ws
 abbrev pub run_of : Said → List (List ℕ) → Result Item Fault
 run_of d [] = Err Fault.Form
-run_of d (w ∷ []) = then (numeral 1 Role.Statement w) (λ n. then (there d 1 Role.Statement n) (λ m. Ok (Item.Run m)))
+run_of d (w ∷ []) = then (numeral 1 (Some Role.Statement) w) (λ n. then (there d 1 (Some Role.Statement) n) (λ m. Ok (Item.Run m)))
 run_of d (w ∷ x ∷ ws) = Err Fault.Form
 
 -- a line with this key and the words ws

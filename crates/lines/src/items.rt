@@ -31,21 +31,20 @@ pub enum Keyword {
     Run,
 }
 
-// What an operand's word stands for. `Absent` is that of a word that is not there.
+// What an operand's word stands for.
 #[derive(Clone, Copy, Debug, PartialEq, Eq)]
 pub enum Role {
-    Absent,
     Variable,
     Expression,
     Statement,
 }
 
-// The roles of the words after an operation.
+// The roles of the words after an operation; none where there is no such word.
 #[derive(Clone, Copy)]
 pub struct Roles {
-    pub first: Role,
-    pub second: Role,
-    pub third: Role,
+    pub first: Option<Role>,
+    pub second: Option<Role>,
+    pub third: Option<Role>,
 }
 
 // The numbers of the operands; 0 for one that is absent.

@@ -1,12 +1,14 @@
 // What a line says, or its fault.
 ghost use Rattle.std.specs.Prelude.{◌≡◌, ℕ, List, []};
 ghost use Rattle.drafts.specs.Said.{said};
-ghost use Rattle.lines.specs.Reading.{Spells, allowed, full, sized, expression_by, statement_by, constant, expression_of, statement_of, bound, upward, fresh, variable_of, run_of, admitted, item_of, line_of};
+ghost use Rattle.lines.specs.Reading.{Spells, allowed, full, sized, made, expression_by, statement_by, constant, expression_of, statement_of, bound, upward, fresh, variable_of, run_of, admitted, item_of, line_of};
 
+use crate::forms;
 use crate::items::{Fault, Keyword, Role, Words};
+use crate::operands::{Operand, read_operands};
+use crate::shapes::Operation;
 use crate::sizes::expression_size;
 use crate::words::cut_words;
-use crate::{forms, operands, shapes};
 use drafts::{Draft, Item};
 use sheet::{Expression, Name, Statement, Variable};
 use text::{Reader, same};
@@ -29,6 +31,21 @@ fn with_size(draft: &Draft, e: Expression) -> Result<Item, Fault>
     }
 }
 
+// What an operation is with the operands that are read from their words.
+fn make<O: Operation>(
+    draft: &Draft,
+    operation: Option<O>,
+    a: &[u8],
+    b: &[u8],
+    c: &[u8],
+) -> Result<O, Fault>
+    ensures { result ≡ made O.roles O.with (said draft.now) operation a.now b.now c.now }
+{
+    let operation = operation.ok_or(Fault::Form)?;
+    let operands = read_operands(draft, operation.roles(), a, b, c)?;
+    Ok(operation.with(operands))
+}
+
 // The expression that an operation makes of its operands' words.
 fn make_expression(
     draft: &Draft,
@@ -38,11 +55,7 @@ fn make_expression(
 ) -> Result<Item, Fault>
     ensures { result ≡ expression_by (said draft.now) form a.now b.now [] }
 {
-    let Some(e) = form else {
-        return Err(Fault::Form);
-    };
-    let o = operands::read_operands(draft, shapes::expression_roles(e), a, b, b"")?;
-    with_size(draft, shapes::expression_with(e, o))
+    with_size(draft, make(draft, form, a, b, b"")?)
 }
 
 // The statement that an operation makes of its operands' words.
@@ -55,11 +68,7 @@ fn make_statement(
 ) -> Result<Item, Fault>
     ensures { result ≡ statement_by (said draft.now) form a.now b.now c.now }
 {
-    let Some(s) = form else {
-        return Err(Fault::Form);
-    };
-    let o = operands::read_operands(draft, shapes::statement_roles(s), a, b, c)?;
-    Ok(Item::Statement(shapes::statement_with(s, o)))
+    Ok(Item::Statement(make(draft, form, a, b, c)?))
 }
 
 // The constant of `num C`.
@@ -150,8 +159,9 @@ fn read_run(draft: &Draft, words: Words) -> Result<Item, Fault>
     let Words::One(word) = words else {
         return Err(Fault::Form);
     };
-    let n = operands::read_numeral(1, Role::Statement, word)?;
-    let n = operands::look_there(draft, 1, Role::Statement, n)?;
+    let role = Some(Role::Statement);
+    let operand = Operand { at: 1, role, word };
+    let n = operand.look_there(draft, operand.numeral()?)?;
     Ok(Item::Run(n))
 }
 

@@ -24,7 +24,7 @@ use Rattle.lines.specs.declared.items.Keyword.{Keyword}
 use Rattle.lines.specs.declared.items.Role.TheVariants as Role
 use Rattle.drafts.specs.Said.{Said}
 use Rattle.lines.specs.Forms.{when, keyword_of, bare_expression, single_expression, double_expression, bare_statement, single_statement, double_statement, triple_statement, expression_roles, statement_roles, expression_with, statement_with}
-use Rattle.lines.specs.Reading.{allowed, full, numeral, there, operands, sized, expression_by, statement_by, constant, expression_of, statement_of, bound, upward, fresh, variable_of, run_of, item_of, admitted, key_in, words_in, line_of}
+use Rattle.lines.specs.Reading.{allowed, full, numeral, there, operands, made, sized, expression_by, statement_by, constant, expression_of, statement_of, bound, upward, fresh, variable_of, run_of, item_of, admitted, key_in, words_in, line_of}
 use Rattle.verdict.proofs.Steps.{clash, same_ok, then_ok, or_ok, if_ok, unless_ok, unless_some, none_is}
 use Rattle.verdict.proofs.Pieces.{spaced-parted, key_split}
 use Rattle.verdict.proofs.Names.{name_is, named_ok}
@@ -104,11 +104,12 @@ constant_says d op a x e q =
 expression_by_says : (d : Said) (o : Option Expression) (n : ℕ) (w a b c : List ℕ) (x : Item) → (n ≡ 4 → ⊥) → Finds expression_word expression_arity n w o → expression_by d o a b c ≡ Ok x → Expresses d (w ∷ take n (a ∷ b ∷ c ∷ [])) x
 expression_by_says d None n w a b c x m f q = absurd (clash q)
 expression_by_says d (Some e) n w a b c x m f q =
-    let p = then_ok (operands d (expression_roles e) a b c) _ x q in
+    let u = then_ok (made expression_roles expression_with d (Some e) a b c) _ x q in
+    let p = then_ok (operands d (expression_roles e) a b c) _ u.0 u.1 in
     let s = operands_say d (expression_roles e) a b c p.0 p.1 in
     let k = f e refl in
     let ws = (λ i. k.word_is i ∷ take (sym k.arity_is i) (a ∷ b ∷ c ∷ [])) ∙ expression_words_said d e a b c p.0 n k.arity_is m s in
-    sized_says d _ (expression_with e p.0) x ws (expression_with_ok d e p.0 n k.arity_is m (says_ok d _ a _ s.first) (says_ok d _ b _ s.second)) p.2
+    sized_says d _ (expression_with e p.0) x ws (expression_with_ok d e p.0 n k.arity_is m (says_ok d _ a _ s.first) (says_ok d _ b _ s.second)) (ap (sized d) (same_ok p.2) ∙ u.2)
 
 expression_says : (d : Said) (ws : List (List ℕ)) (x : Item) → expression_of d ws ≡ Ok x → Expresses d ws x
 expression_says d [] x q = absurd (clash q)
@@ -128,11 +129,12 @@ States d ws x = (s : Statement) × (x ≡ Item.Statement s) × (ws ≡ statement
 statement_by_says : (d : Said) (o : Option Statement) (n : ℕ) (w a b c : List ℕ) (x : Item) → Finds statement_word statement_arity n w o → statement_by d o a b c ≡ Ok x → States d (w ∷ take n (a ∷ b ∷ c ∷ [])) x
 statement_by_says d None n w a b c x f q = absurd (clash q)
 statement_by_says d (Some s) n w a b c x f q =
-    let p = then_ok (operands d (statement_roles s) a b c) _ x q in
+    let u = then_ok (made statement_roles statement_with d (Some s) a b c) _ x q in
+    let p = then_ok (operands d (statement_roles s) a b c) _ u.0 u.1 in
     let t = operands_say d (statement_roles s) a b c p.0 p.1 in
     let k = f s refl in (
       statement_with s p.0,
-      sym (same_ok p.2),
+      sym (ap Item.Statement (same_ok p.2) ∙ same_ok u.2),
       (λ i. k.word_is i ∷ take (sym k.arity_is i) (a ∷ b ∷ c ∷ [])) ∙ statement_words_said d s a b c p.0 t,
       statement_with_ok d s p.0 (says_ok d _ a _ t.first) (says_ok d _ b _ t.second) (says_ok d _ c _ t.third),
     )
@@ -153,9 +155,9 @@ run_says : (d : Said) (ws : List (List ℕ)) (x : Item) → length d.statements 
 run_says d [] x few q = absurd (clash q)
 run_says d (w ∷ v ∷ ws) x few q = absurd (clash q)
 run_says d (w ∷ []) x few q =
-    let p = then_ok (numeral 1 Role.Statement w) _ x q in
-    let r = then_ok (there d 1 Role.Statement p.0) _ x p.2 in
-    let s = operand_says d 1 Role.Statement w p.0 p.0 r.0 p.1 refl r.1 in
+    let p = then_ok (numeral 1 (Some Role.Statement) w) _ x q in
+    let r = then_ok (there d 1 (Some Role.Statement) p.0) _ x p.2 in
+    let s = operand_says d 1 (Some Role.Statement) w p.0 p.0 r.0 p.1 refl r.1 in
     let low : r.0 < length d.statements = ltb-true r.0 (length d.statements) s.1 in
     (r.0, sym (same_ok r.2), ap (λ y. y ∷ []) s.0, (low, omega arith))
 
