@@ -21,14 +21,11 @@ fn main(rt: HostRuntime) -> io::Result<()> {
 fn show_sheet(rt: &HostRuntime, loader: &mut Loader, text: &[u8]) -> io::Result<()> {
     let sheet = loader.sheet();
     let variables = sheet.tables.variables.len();
-    let expressions = sheet.tables.expressions.len();
-    let statements = sheet.tables.statements.len();
-    let run = sheet.run;
     println!(rt; "verdict=accepted")?;
     println!(rt; "variables={variables}")?;
-    println!(rt; "expressions={expressions}")?;
-    println!(rt; "statements={statements}")?;
-    println!(rt; "run={run}")?;
+    println!(rt; "expressions={}", sheet.tables.expressions.len())?;
+    println!(rt; "statements={}", sheet.tables.statements.len())?;
+    println!(rt; "run={}", sheet.run)?;
     for k in 0..variables {
         show_name(rt, k, loader.variable_name(text, k))?;
     }
@@ -46,12 +43,8 @@ fn show_name(rt: &HostRuntime, k: usize, name: Option<&[u8]>) -> io::Result<()> 
 }
 
 fn show_refusal(rt: &HostRuntime, refusal: Refusal) -> io::Result<()> {
-    let number = refusal.number();
-    let line = refusal.line();
-    let word = refusal.word();
-    let reason = refusal.reason();
-    println!(rt; "refused={number}")?;
-    println!(rt; "line={line}")?;
-    println!(rt; "word={word}")?;
-    println!(rt; "reason={reason}")
+    println!(rt; "refused={}", refusal.number())?;
+    println!(rt; "line={}", refusal.line())?;
+    println!(rt; "word={}", refusal.word())?;
+    println!(rt; "reason={}", refusal.reason())
 }

@@ -33,12 +33,12 @@ impl Draft {
         ensures { said self.new ≡ added (said self.old) item }
     {
         match item {
-            Item::Variable(v) => self.tables.add_variable(v),
+            Item::Variable(v) => self.tables.variables.push_reserved(v),
             Item::Expression(e, size) => {
-                self.tables.add_expression(e);
+                self.tables.expressions.push_reserved(e);
                 self.sizes.push_reserved(size);
             }
-            Item::Statement(s) => self.tables.add_statement(s),
+            Item::Statement(s) => self.tables.statements.push_reserved(s),
             Item::Run(n) => self.run = Some(n),
         }
     }

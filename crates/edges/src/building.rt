@@ -1,5 +1,5 @@
 // How texts are built, and how their answers are checked. In the texts of these tests `/`, which no sheet has, ends a line.
-use load::{Loader, Refusal};
+use load::Loader;
 use std::alloc::{AllocError, Global};
 use std::process::Abort;
 use std::test::Fail;
@@ -9,14 +9,6 @@ use std::test::Fail;
 pub struct Bench {
     pub loader: Loader,
     text: Vec<u8>,
-}
-
-// What is told of a refusal: its number, line and word.
-fn told_of(heap: Global, refusal: Refusal) -> Result<String, AllocError> {
-    let number = refusal.number();
-    let line = refusal.line();
-    let word = refusal.word();
-    format!(in heap; "{number} {line} {word}")
 }
 
 impl Bench {
@@ -55,7 +47,7 @@ impl Bench {
         self.text.clear();
         match answer {
             Ok(()) => assert_eq!(rt; "accepted", told, "{row}"),
-            Err(refusal) => assert_eq!(rt; told_of(heap, refusal)?.as_str(), told, "{row}"),
+            Err(refusal) => assert_eq!(rt; refusal.to_string(heap)?.as_str(), told, "{row}"),
         }
         Ok(())
     }

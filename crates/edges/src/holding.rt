@@ -55,10 +55,7 @@ fn named(
     k: usize,
     name: &[u8],
 ) -> Result<(), Fail> {
-    match loader.variable_name(text, k) {
-        Some(letters) => assert!(rt; letters == name),
-        None => assert!(rt; name.len() == 0),
-    }
+    assert_eq!(rt; loader.variable_name(text, k).unwrap_or(b""), name);
     Ok(())
 }
 

@@ -20,7 +20,7 @@ use Rattle.drafts.specs.Said.{Said}
 use Rattle.lines.specs.Forms.{expression_roles, statement_roles, expression_with, statement_with, bare_expression, single_expression, double_expression, bare_statement, single_statement, double_statement, triple_statement}
 use Rattle.lines.specs.Reading as reading
 use Rattle.lines.specs.Reading.{then, number_by, numeral, resolved, there, operands, sized, expression_by, statement_by, variable_of, expression_of, statement_of, run_of}
-use Rattle.faults.specs.Shapes.{Form, num, expression, statement, expression_if, statement_if, variable_form, expression_form, statement_form, run_form, Line, nothing, fresh, operand, operands_by, nth, word_at}
+use Rattle.faults.specs.Shapes.{Form, num, expression, statement, expression_if, statement_if, variable_form, expression_form, statement_form, run_form, Line, nothing, fresh, standing, operands_by, nth, word_at}
 use Rattle.faults.specs.Fits.{natural_in, signed_in, misnumbered, misnamed, misplaced, operand_in, operands_in, large, faulty}
 use Rattle.faults.proofs.Tries.{tried, step, steps, twice, some_step, test_step}
 use Rattle.faults.proofs.Ranks.{behind}
@@ -28,29 +28,29 @@ use Rattle.faults.proofs.Ranks.{behind}
 -- ---- operands: each step fails where its fault fits, and else gives the operand's number
 
 -- the number that an operand's word writes; 0 where it has to write none
-abbrev written_in : Role → List ℕ → ℕ
-written_in Role.Absent w = 0
-written_in Role.Variable w = 0
-written_in Role.Expression w = natural_in w
-written_in Role.Statement w = natural_in w
+abbrev written_in : Option Role → List ℕ → ℕ
+written_in None w = 0
+written_in (Some Role.Variable) w = 0
+written_in (Some Role.Expression) w = natural_in w
+written_in (Some Role.Statement) w = natural_in w
 
-numeral-step : (at : ℕ) (r : Role) (v w : List ℕ) → numeral at r w ≡ cond (misnumbered v w (operand r)) (Err (Fault.Number at)) (Ok (written_in r w))
-numeral-step at Role.Absent v w = refl
-numeral-step at Role.Variable v w = refl
-numeral-step at Role.Expression v w = some_step (natural_of 199 w) 0 (Fault.Number at)
-numeral-step at Role.Statement v w = some_step (natural_of 199 w) 0 (Fault.Number at)
+numeral-step : (at : ℕ) (r : Option Role) (v w : List ℕ) → numeral at r w ≡ cond (misnumbered v w (standing r)) (Err (Fault.Number at)) (Ok (written_in r w))
+numeral-step at None v w = refl
+numeral-step at (Some Role.Variable) v w = refl
+numeral-step at (Some Role.Expression) v w = some_step (natural_of 199 w) 0 (Fault.Number at)
+numeral-step at (Some Role.Statement) v w = some_step (natural_of 199 w) 0 (Fault.Number at)
 
-resolved_step : (d : Said) (at : ℕ) (r : Role) (w : List ℕ) → resolved d at r w (written_in r w) ≡ cond (misnamed d w (operand r)) (Err (Fault.Name at)) (Ok (operand_in d r w))
-resolved_step d at Role.Absent w = refl
-resolved_step d at Role.Variable w = some_step (number_by d (name_of w)) 0 (Fault.Name at)
-resolved_step d at Role.Expression w = refl
-resolved_step d at Role.Statement w = refl
+resolved_step : (d : Said) (at : ℕ) (r : Option Role) (w : List ℕ) → resolved d at r w (written_in r w) ≡ cond (misnamed d w (standing r)) (Err (Fault.Name at)) (Ok (operand_in d r w))
+resolved_step d at None w = refl
+resolved_step d at (Some Role.Variable) w = some_step (number_by d (name_of w)) 0 (Fault.Name at)
+resolved_step d at (Some Role.Expression) w = refl
+resolved_step d at (Some Role.Statement) w = refl
 
-there-step : (d : Said) (at : ℕ) (r : Role) (w : List ℕ) → there d at r (operand_in d r w) ≡ cond (misplaced d w (operand r)) (Err (Fault.Operand at)) (Ok (operand_in d r w))
-there-step d at Role.Absent w = refl
-there-step d at Role.Variable w = refl
-there-step d at Role.Expression w = test_step (ltb (natural_in w) (length d.expressions)) (natural_in w) (Fault.Operand at)
-there-step d at Role.Statement w = test_step (ltb (natural_in w) (length d.statements)) (natural_in w) (Fault.Operand at)
+there-step : (d : Said) (at : ℕ) (r : Option Role) (w : List ℕ) → there d at r (operand_in d r w) ≡ cond (misplaced d w (standing r)) (Err (Fault.Operand at)) (Ok (operand_in d r w))
+there-step d at None w = refl
+there-step d at (Some Role.Variable) w = refl
+there-step d at (Some Role.Expression) w = test_step (ltb (natural_in w) (length d.expressions)) (natural_in w) (Fault.Operand at)
+there-step d at (Some Role.Statement) w = test_step (ltb (natural_in w) (length d.statements)) (natural_in w) (Fault.Operand at)
 
 -- the faults of operands with the roles r
 abbrev operand_faulty : Said → Roles → Line → Fault → Bool
@@ -83,7 +83,7 @@ operands-tried d r x =
 abbrev pub Found : Said → Line → Result Item Fault → Type 0
 Found d x r = (v : Item) × (r ≡ tried (faulty d x) behind v)
 
-module _ (d : Said) (n : ℕ) (k : Keyword) where
+module _ (d : Said) (n : ℕ) (k : Option Keyword) where
   abbrev pub line : List (List ℕ) → Form → Line
   line ws x = record { bytes = n; key = k; words = ws; form = x }
 
@@ -102,18 +102,21 @@ module _ (d : Said) (n : ℕ) (k : Keyword) where
       let o = operands_in d (expression_roles e) x in
       let f = expression_with e o in (
         Item.Expression f (size d.variables d.sizes f),
-        ap (λ z. then z (λ o. sized d (expression_with e o))) (operands-tried d (expression_roles e) x)
-            ∙ steps (faulty d x) nine (Fault.Size ∷ []) o _ (λ o. sized d (expression_with e o)) (sized-step f),
+        ap (λ z. then (then z (λ o. Ok (expression_with e o))) (sized d)) (operands-tried d (expression_roles e) x)
+            ∙ ap (λ z. then z (sized d)) (steps (faulty d x) nine [] o f (λ o. Ok (expression_with e o)) refl)
+            ∙ steps (faulty d x) nine (Fault.Size ∷ []) f _ (sized d) (sized-step f),
       )
 
   statement_found : (ws : List (List ℕ)) (o : Option Statement) → Found d (line ws (statement_if o)) (statement_by d o (nth [] ws 2) (nth [] ws 3) (nth [] ws 4))
   statement_found ws None = (Item.Run 0, refl)
   statement_found ws (Some s) =
       let x = line ws (statement s) in
-      let o = operands_in d (statement_roles s) x in (
-        Item.Statement (statement_with s o),
-        ap (λ z. then z (λ o. Ok (Item.Statement (statement_with s o)))) (operands-tried d (statement_roles s) x)
-            ∙ steps (faulty d x) nine [] o _ (λ o. Ok (Item.Statement (statement_with s o))) refl,
+      let o = operands_in d (statement_roles s) x in
+      let t = statement_with s o in (
+        Item.Statement t,
+        ap (λ z. then (then z (λ o. Ok (statement_with s o))) (λ t. Ok (Item.Statement t))) (operands-tried d (statement_roles s) x)
+            ∙ ap (λ z. then z (λ t. Ok (Item.Statement t))) (steps (faulty d x) nine [] o t (λ o. Ok (statement_with s o)) refl)
+            ∙ steps (faulty d x) nine [] t _ (λ t. Ok (Item.Statement t)) refl,
       )
 
   -- one form or the other
@@ -165,5 +168,5 @@ module _ (d : Said) (n : ℕ) (k : Keyword) where
 
   pub run_line_tried : (ws : List (List ℕ)) → Found d (line ws (run_form ws)) (run_of d ws)
   run_line_tried [] = (Item.Run 0, refl)
-  run_line_tried (w ∷ []) = (Item.Run (natural_in w), step _ _ _ (numeral-step 1 Role.Statement [] w) (step _ _ _ (there-step d 1 Role.Statement w) refl))
+  run_line_tried (w ∷ []) = (Item.Run (natural_in w), step _ _ _ (numeral-step 1 (Some Role.Statement) [] w) (step _ _ _ (there-step d 1 (Some Role.Statement) w) refl))
   run_line_tried (w ∷ x ∷ ws) = (Item.Run 0, refl)

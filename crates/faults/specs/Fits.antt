@@ -1,5 +1,5 @@
 -- Which faults fit a line, and which of them is told. Assumes nothing.
-use Rattle.std.specs.Prelude.{◌≡◌, ℕ, ◌<◌, Bool, true, false, not, ◌||◌, ◌⊎◌, List, length, ℤ, pos, is_some, Ok, Err, int_le, nat_lt}
+use Rattle.std.specs.Prelude.{◌≡◌, ℕ, ◌<◌, Bool, true, false, not, ◌||◌, ◌⊎◌, List, length, ℤ, pos, is_some, Some, None, Ok, Err, Option, int_le, nat_lt}
 use Rattle.std.specs.Option.{unwrap_or}
 use Rattle.text.specs.Decimals.{natural_of, number_of}
 use Rattle.sheet.specs.declared.parts.Expression.{Expression}
@@ -8,6 +8,7 @@ use Rattle.sheet.specs.Sizes.{size}
 use Rattle.sheet.specs.Limits.{name_of}
 use Rattle.lines.specs.declared.items.Fault.{Fault}
 use Rattle.drafts.specs.declared.items.Item.{Item}
+use Rattle.lines.specs.declared.items.Keyword.{Keyword}
 use Rattle.lines.specs.declared.items.Operands.{Operands}
 use Rattle.lines.specs.declared.items.Role.{Role}
 use Rattle.lines.specs.declared.items.Roles.{Roles}
@@ -68,7 +69,6 @@ misnumbered v w fresh = false
 misnumbered v w low = not (is_some (number_of 1000000 w))
 misnumbered v w high = not (is_some (number_of 1000000 w)) || not (int_le (signed_in v) (signed_in w))
 misnumbered v w constant = not (is_some (number_of 1000000 w))
-misnumbered v w (operand Role.Absent) = false
 misnumbered v w (operand Role.Variable) = false
 misnumbered v w (operand Role.Expression) = not (is_some (natural_of 199 w))
 misnumbered v w (operand Role.Statement) = not (is_some (natural_of 199 w))
@@ -80,7 +80,6 @@ misnamed d w fresh = not (is_some (name_of w)) || is_some (number_by d (name_of 
 misnamed d w low = false
 misnamed d w high = false
 misnamed d w constant = false
-misnamed d w (operand Role.Absent) = false
 misnamed d w (operand Role.Variable) = not (is_some (number_by d (name_of w)))
 misnamed d w (operand Role.Expression) = false
 misnamed d w (operand Role.Statement) = false
@@ -92,17 +91,16 @@ misplaced d w fresh = false
 misplaced d w low = false
 misplaced d w high = false
 misplaced d w constant = false
-misplaced d w (operand Role.Absent) = false
 misplaced d w (operand Role.Variable) = false
 misplaced d w (operand Role.Expression) = not (nat_lt (natural_in w) (length d.expressions))
 misplaced d w (operand Role.Statement) = not (nat_lt (natural_in w) (length d.statements))
 
 -- the operand that the word w tells; 0 where it tells none
-abbrev pub operand_in : Said → Role → List ℕ → ℕ
-operand_in d Role.Absent w = 0
-operand_in d Role.Variable w = unwrap_or (number_by d (name_of w)) 0
-operand_in d Role.Expression w = natural_in w
-operand_in d Role.Statement w = natural_in w
+abbrev pub operand_in : Said → Option Role → List ℕ → ℕ
+operand_in d None w = 0
+operand_in d (Some Role.Variable) w = unwrap_or (number_by d (name_of w)) 0
+operand_in d (Some Role.Expression) w = natural_in w
+operand_in d (Some Role.Statement) w = natural_in w
 
 -- the operands that words 2, 3 and 4 tell
 abbrev pub operands_in : Said → Roles → Line → Operands
@@ -126,14 +124,24 @@ oversized d x (expression e) = large d (expression_with e (operands_in d (expres
 oversized d x (statement s) = false
 oversized d x run = false
 
+-- no line with the key k may come here; that is so of a line with no known key
+abbrev pub misplaced_key : Said → Option Keyword → Bool
+misplaced_key d None = true
+misplaced_key d (Some k) = not (allowed d k)
+
+-- there are already as many lines with the key k as there may be
+abbrev pub surplus : Said → Option Keyword → Bool
+surplus d None = false
+surplus d (Some k) = full d k
+
 -- a fault fits the line x after the lines that said d
 abbrev pub faulty : Said → Line → Fault → Bool
 -- the line has more than 64 bytes
 faulty d x Fault.Long = nat_lt 64 x.bytes
 -- no line with its key may come here
-faulty d x Fault.Key = not (allowed d x.key)
+faulty d x Fault.Key = misplaced_key d x.key
 -- there are already as many lines with its key as there may be
-faulty d x Fault.Many = full d x.key
+faulty d x Fault.Many = surplus d x.key
 -- its operation is unknown, or the number of its words is wrong
 faulty d x Fault.Form = formless x.form
 -- word w is no number, or one outside its limits

@@ -1,25 +1,17 @@
 -- What a line is made of: its key, its words, its form, and what each word stands for. Assumes nothing.
-use Rattle.std.specs.Prelude.{ℕ, cond, List, [], ◌∷◌, length, Some, None, codes, Option, ◌==◌, slice_index_or}
+use Rattle.std.specs.Prelude.{ℕ, cond, List, [], ◌∷◌, length, Some, None, codes, Option, slice_index_or}
 use Rattle.std.specs.Str.{bytes_eq}
-use Rattle.text.specs.Cut.{before, after, parted}
 use Rattle.sheet.specs.declared.parts.Expression.{Expression}
 use Rattle.sheet.specs.declared.parts.Statement.{Statement}
 use Rattle.lines.specs.declared.items.Keyword.{Keyword}
 use Rattle.lines.specs.declared.items.Role.{Role}
 use Rattle.lines.specs.declared.items.Roles.{Roles}
-use Rattle.lines.specs.Forms.{keyword_of, bare_expression, single_expression, double_expression, bare_statement, single_statement, double_statement, triple_statement, expression_roles, statement_roles}
-
--- the key of a line, ahead of its first `=`
-abbrev pub key_in : List ℕ → Keyword
-key_in l = cond (length (before 61 l) == length l) Keyword.Unknown (keyword_of (before 61 l))
-
--- the words of a line, behind that `=` and parted by spaces
-abbrev pub words_in : List ℕ → List (List ℕ)
-words_in l = parted 32 (after 61 l)
+use Rattle.lines.specs.Forms.{bare_expression, single_expression, double_expression, bare_statement, single_statement, double_statement, triple_statement, expression_roles, statement_roles}
+use Rattle.lines.specs.Reading.{key_in, words_in}
 
 -- the form of a line
 pub data Form : Type 0 where
-  -- its key asks for none: it is `sheet` or unknown
+  -- its key asks for none: it is `sheet`, or there is no known key
   unasked : Form
   -- it has none: the operation is unknown, or the number of words is wrong
   none : Form
@@ -73,19 +65,19 @@ run_form [] = none
 run_form (w ∷ []) = run
 run_form (w ∷ x ∷ ws) = none
 
--- the form of a line with this key and the words ws
-abbrev pub form_of : Keyword → List (List ℕ) → Form
-form_of Keyword.Sheet ws = unasked
-form_of Keyword.Var ws = variable_form ws
-form_of Keyword.Expr ws = expression_form ws
-form_of Keyword.Stmt ws = statement_form ws
-form_of Keyword.Run ws = run_form ws
-form_of Keyword.Unknown ws = unasked
+-- the form of a line with this key, if it has a known one, and the words ws
+abbrev pub form_of : Option Keyword → List (List ℕ) → Form
+form_of None ws = unasked
+form_of (Some Keyword.Sheet) ws = unasked
+form_of (Some Keyword.Var) ws = variable_form ws
+form_of (Some Keyword.Expr) ws = expression_form ws
+form_of (Some Keyword.Stmt) ws = statement_form ws
+form_of (Some Keyword.Run) ws = run_form ws
 
 -- a line as it is read; it has so many bytes
 pub record Line : Type 0 where
   pub bytes : ℕ
-  pub key : Keyword
+  pub key : Option Keyword
   pub words : List (List ℕ)
   pub form : Form
 
@@ -106,9 +98,14 @@ pub data Stands : Type 0 where
   -- an operand
   operand : Role → Stands
 
+-- what a word with this role stands for, if it has one
+abbrev pub standing : Option Role → Stands
+standing None = nothing
+standing (Some r) = operand r
+
 -- what the words stand for where an operation has operands with the roles r
 abbrev pub operands_by : Roles → List Stands
-operands_by r = nothing ∷ operand r.first ∷ operand r.second ∷ operand r.third ∷ []
+operands_by r = nothing ∷ standing r.first ∷ standing r.second ∷ standing r.third ∷ []
 
 -- what the words of a line of this form stand for, from the first word on
 abbrev pub standings : Form → List Stands

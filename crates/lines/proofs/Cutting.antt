@@ -1,31 +1,49 @@
 -- The key and the words of a line. Assumes nothing.
-use Rattle.std.proofs.Common.{◌≡◌, ℕ, ◌<◌, ◌≤◌, eqb, ltb, List, [], length, drop, Some, Ok, Result, sym, ap, ◌∙◌, subst, arith, Bor}
+use Rattle.std.proofs.Common.{◌≡◌, ℕ, ◌<◌, ◌≤◌, eqb, ltb, List, [], length, drop, Option, Result, None, Some, Ok, sym, ap, ◌∙◌, subst, arith, Bor}
 use Rattle.std.proofs.lemmas.Bool.{ne_eqb, le-ltb, cond-false}
 use Rattle.text.specs.Cut.{before, after, parted, left, KeyAt}
 use Rattle.text.proofs.Cuts.{left_in, parted-cut}
 use Rattle.lines.specs.declared.items.Fault.{Fault}
-use Rattle.drafts.specs.declared.items.Item.{Item}
 use Rattle.lines.specs.declared.items.Keyword.{Keyword}
 use Rattle.drafts.specs.Said.{Said}
 use Rattle.lines.specs.Forms.{keyword_of}
-use Rattle.lines.specs.Reading.{then, admitted, item_of, line_of}
+use Rattle.lines.specs.declared.items.Words.{Words}
+use Rattle.lines.specs.Reading.{Spells, Cut, then, admitted, item_of, key_in, words_in, line_of}
+use Rattle.std.specs.Option.{ok_or}
 
 -- there is always a piece
 pub parted_some : (c : ℕ) (s : List ℕ) → parted c s ≡ [] → ⊥
 parted_some c s e = let cut = parted-cut c s in let z : ◌≡◌ {A = ℕ} 0 1 = cc in omega arith
 
--- a line with a key that is admitted, and words
-pub line_by : (d : Said) (l w : List ℕ) (k : Keyword) (q : ℕ) (r : Result Item Fault) → length l ≤ 64 → length (before 61 l) < length l → w ≡ before 61 l → drop q l ≡ after 61 l → q ≤ length l
-    → Ok k ≡ admitted d (keyword_of w) → r ≡ item_of d k (left 32 l q) → r ≡ line_of d l
-line_by d l w k q r short some key rest inside adm item =
-    item ∙ ap (item_of d k) (left_in 32 l q inside ∙ ap (parted 32) rest)
-    ∙ sym (cond-false (ltb 64 (length l)) _ _ (le-ltb 64 _ short)
-    ∙ cond-false (eqb (length (before 61 l)) (length l)) _ _ (ne_eqb _ _ (λ e. omega arith))
-    ∙ ap (λ x. then x (λ j. item_of d j (parted 32 (after 61 l)))) (ap (λ y. admitted d (keyword_of y)) (sym key) ∙ sym adm))
+-- a line that has its key before place q, and words behind it
+pub keyed_line : (d : Said) (l w : List ℕ) (q : ℕ) → length l ≤ 64 → length (before 61 l) < length l → w ≡ before 61 l → drop q l ≡ after 61 l → q ≤ length l
+    → line_of d l ≡ then (ok_or (keyword_of w) Fault.Key) (λ k. then (admitted d k) (λ k. item_of d k (left 32 l q)))
+keyed_line d l w q short some key rest inside =
+    cond-false (ltb 64 (length l)) _ _ (le-ltb 64 _ short)
+    ∙ (λ i. then (ok_or (marked i) Fault.Key) (λ k. then (admitted d k) (λ k. item_of d k (words i))))
+  where
+    marked : key_in l ≡ keyword_of w
+    marked = cond-false (eqb (length (before 61 l)) (length l)) _ _ (ne_eqb _ _ (λ e. omega arith)) ∙ ap keyword_of (sym key)
 
--- the same, where a reader s of the line t handed out the key
-pub line_read : (d : Said) (s t u w : Bor (List ℕ)) (p q : ℕ) (k : Keyword) (r : Result Item Fault) → s ≡ t → p ≡ 0 → u ≡ s → length t.now ≤ 64 → KeyAt s p q (Some w)
-    → Ok k ≡ admitted d (keyword_of w.now) → r ≡ item_of d k (left 32 u.now q) → r ≡ line_of d t.now
-line_read d s t u w p q k r e z f short key adm item =
+    words : words_in l ≡ left 32 l q
+    words = sym (left_in 32 l q inside ∙ ap (parted 32) rest)
+
+-- the same, where a reader s of the line t handed out the key and u is what it then reads
+pub line_read : (d : Said) (s t u w : Bor (List ℕ)) (p q : ℕ) → s ≡ t → p ≡ 0 → u ≡ s → length t.now ≤ 64 → KeyAt s p q (Some w)
+    → line_of d t.now ≡ then (ok_or (keyword_of w.now) Fault.Key) (λ k. then (admitted d k) (λ k. item_of d k (left 32 u.now q)))
+line_read d s t u w p q e z f short key =
     let at : KeyAt t 0 q (Some w) = subst (λ (x : Bor (List ℕ)). KeyAt x 0 q (Some w)) e (subst (λ (n : ℕ). KeyAt s n q (Some w)) z key) in
-    line_by d t.now w.now k q r short at.1 at.0.bytes at.2 at.3 adm (item ∙ ap (λ (x : Bor (List ℕ)). item_of d k (left 32 x.now q)) (f ∙ e))
+    keyed_line d t.now w.now q short at.1 at.0.bytes at.2 at.3
+    ∙ ap (λ (x : Bor (List ℕ)). then (ok_or (keyword_of w.now) Fault.Key) (λ k. then (admitted d k) (λ k. item_of d k (left 32 x.now q)))) (sym (f ∙ e))
+
+-- words that were cut
+pub cut_some : (o : Option Words) (r : Words) (ws : List (List ℕ)) → Ok r ≡ ok_or o Fault.Form → Cut o ws → Spells r ws
+cut_some None r ws e h = absurd (let z : ◌≡◌ {A = ℕ} 0 1 = cc in omega arith)
+cut_some (Some s) r ws e h = let same : s ≡ r = cc in subst (λ x. Spells x ws) same h
+
+-- a line whose key is k and is admitted
+pub line_admitted : (d : Said) (o p : Option Keyword) (k j : Keyword) (ws : List (List ℕ)) → o ≡ p → Ok k ≡ ok_or o Fault.Key → Ok j ≡ admitted d k
+    → then (ok_or p Fault.Key) (λ k. then (admitted d k) (λ k. item_of d k ws)) ≡ item_of d j ws
+line_admitted d o p k j ws e f g =
+    ap (λ (r : Result Keyword Fault). then r (λ k. then (admitted d k) (λ k. item_of d k ws))) (sym (f ∙ ap (λ q. ok_or q Fault.Key) e))
+    ∙ ap (λ (r : Result Keyword Fault). then r (λ k. item_of d k ws)) (sym g)

@@ -1,6 +1,7 @@
 -- Operations: their words, what their operands stand for, and what they make of them. Assumes nothing.
 -- An operation is given as an expression or a statement whose operands are 0.
-use Rattle.std.specs.Prelude.{ℕ, cond, List, Some, None, codes, Option}
+use Rattle.std.specs.Prelude.{ℕ, if◌then◌else◌, List, [], ◌∷◌, Some, None, codes, Option}
+use Rattle.std.specs.Borrow.{Bor}
 use Rattle.std.specs.Str.{bytes_eq}
 use Rattle.sheet.specs.declared.parts.Operator.TheVariants as Operator
 use Rattle.sheet.specs.declared.parts.Expression.{Expression}
@@ -12,14 +13,20 @@ use Rattle.lines.specs.declared.items.Role.{Role}
 use Rattle.lines.specs.declared.items.Roles.{Roles}
 use Rattle.lines.specs.declared.items.Operands.{Operands}
 
--- x where w is the word v, else what comes after
+-- x where w is the word v, else y
 abbrev pub when : {X : Type 0} → List ℕ → List ℕ → X → X → X
-when w v x else = cond (bytes_eq w v) x else
+when w v x y = if bytes_eq w v then x else y
 
-abbrev pub keyword_of : List ℕ → Keyword
+-- what a table has for the word w: what stands beside w, where w is first
+abbrev pub looked_up : {X : Type 0} → List (Bor (List ℕ) × X) → List ℕ → Option X
+looked_up [] w = None
+looked_up (r ∷ rs) w = when w r.0.now (Some r.1) (looked_up rs w)
+
+-- the key that a word names
+abbrev pub keyword_of : List ℕ → Option Keyword
 keyword_of w =
-    when w (codes "stmt") Keyword.Stmt (when w (codes "expr") Keyword.Expr (when w (codes "var") Keyword.Var
-    (when w (codes "run") Keyword.Run (when w (codes "sheet") Keyword.Sheet Keyword.Unknown))))
+    when w (codes "stmt") (Some Keyword.Stmt) (when w (codes "expr") (Some Keyword.Expr) (when w (codes "var") (Some Keyword.Var)
+    (when w (codes "run") (Some Keyword.Run) (when w (codes "sheet") (Some Keyword.Sheet) None))))
 
 -- expressions with no operand, with one, with two (`num` is apart, since its operand is no place)
 abbrev pub bare_expression : List ℕ → Option Expression
@@ -54,35 +61,36 @@ double_statement w =
 abbrev pub triple_statement : List ℕ → Option Statement
 triple_statement w = when w (codes "if") (Some (If 0 0 0)) None
 
-abbrev pub roles : Role → Role → Role → Roles
+-- the roles of the words after an operation; none where there is no such word
+abbrev pub roles : Option Role → Option Role → Option Role → Roles
 roles a b c = record { first = a; second = b; third = c }
 
 -- what the operands of an expression stand for
 abbrev pub expression_roles : Expression → Roles
-expression_roles (Num c) = roles Role.Absent Role.Absent Role.Absent
-expression_roles (Val x) = roles Role.Variable Role.Absent Role.Absent
-expression_roles (Pair o a b) = roles Role.Expression Role.Expression Role.Absent
-expression_roles (Not a) = roles Role.Expression Role.Absent Role.Absent
-expression_roles Last = roles Role.Absent Role.Absent Role.Absent
+expression_roles (Num c) = roles None None None
+expression_roles (Val x) = roles (Some Role.Variable) None None
+expression_roles (Pair o a b) = roles (Some Role.Expression) (Some Role.Expression) None
+expression_roles (Not a) = roles (Some Role.Expression) None None
+expression_roles Last = roles None None None
 
 -- what the operands of a statement stand for
 abbrev pub statement_roles : Statement → Roles
-statement_roles True = roles Role.Absent Role.Absent Role.Absent
-statement_roles False = roles Role.Absent Role.Absent Role.Absent
-statement_roles Empty = roles Role.Absent Role.Absent Role.Absent
-statement_roles More = roles Role.Absent Role.Absent Role.Absent
-statement_roles (Is x e) = roles Role.Variable Role.Expression Role.Absent
-statement_roles (And p q) = roles Role.Statement Role.Statement Role.Absent
-statement_roles (If e p q) = roles Role.Expression Role.Statement Role.Statement
-statement_roles (Next p) = roles Role.Statement Role.Absent Role.Absent
-statement_roles (Always p) = roles Role.Statement Role.Absent Role.Absent
-statement_roles (Halt e) = roles Role.Expression Role.Absent Role.Absent
-statement_roles (Len e) = roles Role.Expression Role.Absent Role.Absent
-statement_roles (Gets x e) = roles Role.Variable Role.Expression Role.Absent
-statement_roles (Chop p q) = roles Role.Statement Role.Statement Role.Absent
-statement_roles (For e p) = roles Role.Expression Role.Statement Role.Absent
-statement_roles (While e p) = roles Role.Expression Role.Statement Role.Absent
-statement_roles (Request x) = roles Role.Variable Role.Absent Role.Absent
+statement_roles True = roles None None None
+statement_roles False = roles None None None
+statement_roles Empty = roles None None None
+statement_roles More = roles None None None
+statement_roles (Is x e) = roles (Some Role.Variable) (Some Role.Expression) None
+statement_roles (And p q) = roles (Some Role.Statement) (Some Role.Statement) None
+statement_roles (If e p q) = roles (Some Role.Expression) (Some Role.Statement) (Some Role.Statement)
+statement_roles (Next p) = roles (Some Role.Statement) None None
+statement_roles (Always p) = roles (Some Role.Statement) None None
+statement_roles (Halt e) = roles (Some Role.Expression) None None
+statement_roles (Len e) = roles (Some Role.Expression) None None
+statement_roles (Gets x e) = roles (Some Role.Variable) (Some Role.Expression) None
+statement_roles (Chop p q) = roles (Some Role.Statement) (Some Role.Statement) None
+statement_roles (For e p) = roles (Some Role.Expression) (Some Role.Statement) None
+statement_roles (While e p) = roles (Some Role.Expression) (Some Role.Statement) None
+statement_roles (Request x) = roles (Some Role.Variable) None None
 
 -- an expression with the operands o
 abbrev pub expression_with : Expression → Operands → Expression

@@ -1,5 +1,5 @@
 -- What a line says after those before it, or its fault: the faults are looked for in the order of their numbers. Assumes nothing.
-use Rattle.std.specs.Prelude.{◌≡◌, ℕ, ◌<◌, Bool, true, false, cond, not, ◌&&◌, List, [], ◌∷◌, length, ℤ, is_some, Some, None, Ok, Err, codes, Option, Result, ◌==◌, int_le, nat_le, nat_lt}
+use Rattle.std.specs.Prelude.{◌≡◌, ℕ, ◌<◌, Bool, true, cond, not, ◌&&◌, List, [], ◌∷◌, length, ℤ, is_some, Some, None, Ok, Err, codes, Option, Result, ◌==◌, int_le, nat_le, nat_lt}
 use Rattle.std.specs.Option.{ok_or}
 use Rattle.std.specs.Str.{bytes_eq}
 use Rattle.text.specs.Cut.{before, after, parted}
@@ -17,7 +17,7 @@ use Rattle.lines.specs.declared.items.Role.{Role}
 use Rattle.lines.specs.declared.items.Roles.{Roles}
 use Rattle.lines.specs.declared.items.Operands.{Operands}
 use Rattle.lines.specs.declared.items.Words.{Words}
-use Rattle.lines.specs.declared.items.Words.TheVariants.{One, Two, Three, Four, More}
+use Rattle.lines.specs.declared.items.Words.TheVariants.{One, Two, Three, Four}
 use Rattle.drafts.specs.Said.{Said}
 use Rattle.lines.specs.Forms.{keyword_of, bare_expression, single_expression, double_expression, bare_statement, single_statement, double_statement, triple_statement, expression_roles, statement_roles, expression_with, statement_with}
 
@@ -26,13 +26,17 @@ abbrev pub then : {A B E : Type 0} → Result A E → (A → Result B E) → Res
 then (Ok x) f = f x
 then (Err e) f = Err e
 
--- r has the words ws, where they are at most four
+-- r has the words ws
 abbrev pub Spells : Words → List (List ℕ) → Type 0
 Spells (One a) ws = ws ≡ a.now ∷ []
 Spells (Two a b) ws = ws ≡ a.now ∷ b.now ∷ []
 Spells (Three a b c) ws = ws ≡ a.now ∷ b.now ∷ c.now ∷ []
 Spells (Four a b c d) ws = ws ≡ a.now ∷ b.now ∷ c.now ∷ d.now ∷ []
-Spells More ws = 4 < length ws
+
+-- o has the words ws; there is none where they are more than four
+abbrev pub Cut : Option Words → List (List ℕ) → Type 0
+Cut None ws = 4 < length ws
+Cut (Some r) ws = Spells r ws
 
 -- a line with this key may stand here: no later key stood before, and neither `var` nor `stmt` is skipped
 abbrev pub allowed : Said → Keyword → Bool
@@ -41,7 +45,6 @@ allowed d Keyword.Var = length d.expressions == 0 && (length d.statements == 0 &
 allowed d Keyword.Expr = nat_lt 0 (length d.variables) && (length d.statements == 0 && not (is_some d.run))
 allowed d Keyword.Stmt = nat_lt 0 (length d.variables) && not (is_some d.run)
 allowed d Keyword.Run = nat_lt 0 (length d.variables) && nat_lt 0 (length d.statements)
-allowed d Keyword.Unknown = false
 
 -- there are already as many lines with this key as there may be
 abbrev pub full : Said → Keyword → Bool
@@ -50,14 +53,13 @@ full d Keyword.Var = nat_le 16 (length d.variables)
 full d Keyword.Expr = nat_le 200 (length d.expressions)
 full d Keyword.Stmt = nat_le 200 (length d.statements)
 full d Keyword.Run = is_some d.run
-full d Keyword.Unknown = false
 
 -- the number that an operand's word writes: 0 to 199
-abbrev pub numeral : ℕ → Role → List ℕ → Result ℕ Fault
-numeral at Role.Absent w = Ok 0
-numeral at Role.Variable w = Ok 0
-numeral at Role.Expression w = ok_or (natural_of 199 w) (Fault.Number at)
-numeral at Role.Statement w = ok_or (natural_of 199 w) (Fault.Number at)
+abbrev pub numeral : ℕ → Option Role → List ℕ → Result ℕ Fault
+numeral at None w = Ok 0
+numeral at (Some Role.Variable) w = Ok 0
+numeral at (Some Role.Expression) w = ok_or (natural_of 199 w) (Fault.Number at)
+numeral at (Some Role.Statement) w = ok_or (natural_of 199 w) (Fault.Number at)
 
 -- the number of the variable with this name, if there is a name
 abbrev pub number_by : Said → Option Name → Option ℕ
@@ -65,18 +67,18 @@ number_by d None = None
 number_by d (Some n) = number_of_name d.variables n
 
 -- the number n, or that of the variable that an operand's word names
-abbrev pub resolved : Said → ℕ → Role → List ℕ → ℕ → Result ℕ Fault
-resolved d at Role.Absent w n = Ok n
-resolved d at Role.Variable w n = ok_or (number_by d (name_of w)) (Fault.Name at)
-resolved d at Role.Expression w n = Ok n
-resolved d at Role.Statement w n = Ok n
+abbrev pub resolved : Said → ℕ → Option Role → List ℕ → ℕ → Result ℕ Fault
+resolved d at None w n = Ok n
+resolved d at (Some Role.Variable) w n = ok_or (number_by d (name_of w)) (Fault.Name at)
+resolved d at (Some Role.Expression) w n = Ok n
+resolved d at (Some Role.Statement) w n = Ok n
 
 -- the number n, where an expression or a statement has it
-abbrev pub there : Said → ℕ → Role → ℕ → Result ℕ Fault
-there d at Role.Absent n = Ok n
-there d at Role.Variable n = Ok n
-there d at Role.Expression n = cond (nat_lt n (length d.expressions)) (Ok n) (Err (Fault.Operand at))
-there d at Role.Statement n = cond (nat_lt n (length d.statements)) (Ok n) (Err (Fault.Operand at))
+abbrev pub there : Said → ℕ → Option Role → ℕ → Result ℕ Fault
+there d at None n = Ok n
+there d at (Some Role.Variable) n = Ok n
+there d at (Some Role.Expression) n = cond (nat_lt n (length d.expressions)) (Ok n) (Err (Fault.Operand at))
+there d at (Some Role.Statement) n = cond (nat_lt n (length d.statements)) (Ok n) (Err (Fault.Operand at))
 
 -- the operands in the words a, b and c, which are the second, third and fourth of their line
 abbrev pub operands : Said → Roles → List ℕ → List ℕ → List ℕ → Result Operands Fault
@@ -90,13 +92,16 @@ operands d r a b c =
 abbrev pub sized : Said → Expression → Result Item Fault
 sized d e = cond (nat_le (size d.variables d.sizes e) 1000000000) (Ok (Item.Expression e (size d.variables d.sizes e))) (Err Fault.Size)
 
+-- an operation, if there is one, with the operands in the words a, b and c
+abbrev pub made : {X : Type 0} → (X → Roles) → (X → Operands → X) → Said → Option X → List ℕ → List ℕ → List ℕ → Result X Fault
+made roles with d None a b c = Err Fault.Form
+made roles with d (Some x) a b c = then (operands d (roles x) a b c) (λ o. Ok (with x o))
+
 abbrev pub expression_by : Said → Option Expression → List ℕ → List ℕ → List ℕ → Result Item Fault
-expression_by d None a b c = Err Fault.Form
-expression_by d (Some e) a b c = then (operands d (expression_roles e) a b c) (λ o. sized d (expression_with e o))
+expression_by d o a b c = then (made expression_roles expression_with d o a b c) (sized d)
 
 abbrev pub statement_by : Said → Option Statement → List ℕ → List ℕ → List ℕ → Result Item Fault
-statement_by d None a b c = Err Fault.Form
-statement_by d (Some s) a b c = then (operands d (statement_roles s) a b c) (λ o. Ok (Item.Statement (statement_with s o)))
+statement_by d o a b c = then (made statement_roles statement_with d o a b c) (λ s. Ok (Item.Statement s))
 
 -- `num C`
 abbrev pub constant : Said → List ℕ → Result Item Fault
@@ -144,7 +149,7 @@ variable_of d (n ∷ a ∷ b ∷ c ∷ ws) = Err Fault.Form
 -- a `run` line with the words ws
 abbrev pub run_of : Said → List (List ℕ) → Result Item Fault
 run_of d [] = Err Fault.Form
-run_of d (w ∷ []) = then (numeral 1 Role.Statement w) (λ n. then (there d 1 Role.Statement n) (λ m. Ok (Item.Run m)))
+run_of d (w ∷ []) = then (numeral 1 (Some Role.Statement) w) (λ n. then (there d 1 (Some Role.Statement) n) (λ m. Ok (Item.Run m)))
 run_of d (w ∷ x ∷ ws) = Err Fault.Form
 
 -- a line with this key and the words ws
@@ -154,15 +159,21 @@ item_of d Keyword.Var ws = variable_of d ws
 item_of d Keyword.Expr ws = expression_of d ws
 item_of d Keyword.Stmt ws = statement_of d ws
 item_of d Keyword.Run ws = run_of d ws
-item_of d Keyword.Unknown ws = Err Fault.Key
 
 -- that a line with this key may come
 abbrev pub admitted : Said → Keyword → Result Keyword Fault
 admitted d k = cond (allowed d k) (cond (full d k) (Err Fault.Many) (Ok k)) (Err Fault.Key)
 
+-- the key of a line, which stands ahead of its first `=`
+abbrev pub key_in : List ℕ → Option Keyword
+key_in l = cond (length (before 61 l) == length l) None (keyword_of (before 61 l))
+
+-- the words of a line, behind that `=` and parted by spaces
+abbrev pub words_in : List ℕ → List (List ℕ)
+words_in l = parted 32 (after 61 l)
+
 -- what the line l says after those before it
 abbrev pub line_of : Said → List ℕ → Result Item Fault
 line_of d l =
     cond (nat_lt 64 (length l)) (Err Fault.Long)
-    (cond (length (before 61 l) == length l) (Err Fault.Key)
-    (then (admitted d (keyword_of (before 61 l))) (λ k. item_of d k (parted 32 (after 61 l)))))
+    (then (ok_or (key_in l) Fault.Key) (λ k. then (admitted d k) (λ k. item_of d k (words_in l))))

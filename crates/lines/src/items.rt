@@ -1,7 +1,7 @@
 // What a line is made of, and what can be wrong with it.
 
 // What is wrong with a line. A number says which word of the line is meant, counted from 1 after the `=`.
-#[derive(Clone, Copy)]
+#[derive(Clone, Copy, Debug, PartialEq, Eq)]
 pub enum Fault {
     // the line has more than 64 bytes
     Long,
@@ -22,31 +22,29 @@ pub enum Fault {
 }
 
 // The key of a line.
-#[derive(Clone, Copy)]
+#[derive(Clone, Copy, Debug, PartialEq, Eq)]
 pub enum Keyword {
     Sheet,
     Var,
     Expr,
     Stmt,
     Run,
-    Unknown,
 }
 
-// What an operand's word stands for. `Absent` is that of a word that is not there.
-#[derive(Clone, Copy)]
+// What an operand's word stands for.
+#[derive(Clone, Copy, Debug, PartialEq, Eq)]
 pub enum Role {
-    Absent,
     Variable,
     Expression,
     Statement,
 }
 
-// The roles of the words after an operation.
+// The roles of the words after an operation; none where there is no such word.
 #[derive(Clone, Copy)]
 pub struct Roles {
-    pub first: Role,
-    pub second: Role,
-    pub third: Role,
+    pub first: Option<Role>,
+    pub second: Option<Role>,
+    pub third: Option<Role>,
 }
 
 // The numbers of the operands; 0 for one that is absent.
@@ -57,12 +55,11 @@ pub struct Operands {
     pub third: u16,
 }
 
-// The words of a line, parts of the line itself, where there are one to four.
+// The words of a line, one to four, as parts of the line itself.
 #[derive(Clone, Copy)]
 pub enum Words<'a> {
     One(&'a [u8]),
     Two(&'a [u8], &'a [u8]),
     Three(&'a [u8], &'a [u8], &'a [u8]),
     Four(&'a [u8], &'a [u8], &'a [u8], &'a [u8]),
-    More,
 }

@@ -9,50 +9,57 @@ use drafts::Draft;
 // The largest number of an operand.
 const MOST_OPERAND: u32 = 199;
 
-// The number that an operand's word writes.
-pub(crate) fn read_numeral(at: u8, role: Role, word: &[u8]) -> Result<u16, Fault>
-    ensures { result ≡ numeral at role word.now }
-{
-    match role {
-        Role::Absent | Role::Variable => Ok(0),
-        Role::Expression | Role::Statement => match text::natural(word, MOST_OPERAND) {
-            Some(n) => Ok(n as u16),
-            None => Err(Fault::Number(at)),
-        },
-    }
+// An operand's word: the word of its line that it is, counted from 1, what it stands for, and its bytes.
+#[derive(Clone, Copy)]
+pub(crate) struct Operand<'a> {
+    pub(crate) at: u8,
+    pub(crate) role: Option<Role>,
+    pub(crate) word: &'a [u8],
 }
 
-// The number of the variable that a word names, where the word is to name one.
-pub(crate) fn resolve(draft: &Draft, at: u8, role: Role, word: &[u8], n: u16) -> Result<u16, Fault>
-    ensures { result ≡ resolved (said draft.now) at role word.now n }
-{
-    match role {
-        Role::Absent | Role::Expression | Role::Statement => Ok(n),
-        Role::Variable => {
-            let Some(name) = sheet::make_name(word) else {
-                return Err(Fault::Name(at));
-            };
-            match sheet::find_variable(&draft.tables.variables, name) {
-                Some(k) => Ok(k as u16),
-                None => Err(Fault::Name(at)),
+impl<'a> Operand<'a> {
+    // The number that the word writes.
+    pub(crate) fn numeral(self) -> Result<u16, Fault>
+        ensures { result ≡ numeral self.entry.at self.entry.role self.entry.word.now }
+    {
+        match self.role {
+            None | Some(Role::Variable) => Ok(0),
+            Some(Role::Expression) | Some(Role::Statement) => {
+                let n = text::natural(self.word, MOST_OPERAND).ok_or(Fault::Number(self.at))?;
+                Ok(n as u16)
             }
         }
     }
-}
 
-// The number again, where an expression or a statement has it.
-pub(crate) fn look_there(draft: &Draft, at: u8, role: Role, n: u16) -> Result<u16, Fault>
-    ensures { result ≡ there (said draft.now) at role n }
-{
-    let count = match role {
-        Role::Absent | Role::Variable => return Ok(n),
-        Role::Expression => draft.tables.expressions.len(),
-        Role::Statement => draft.tables.statements.len(),
-    };
-    if (n as usize) < count {
-        Ok(n)
-    } else {
-        Err(Fault::Operand(at))
+    // The number of the variable that the word names, where it is to name one.
+    fn resolve(self, draft: &Draft, n: u16) -> Result<u16, Fault>
+        ensures { result ≡ resolved (said draft.now) self.entry.at self.entry.role self.entry.word.now n }
+    {
+        match self.role {
+            None | Some(Role::Expression) | Some(Role::Statement) => Ok(n),
+            Some(Role::Variable) => {
+                let fault = Fault::Name(self.at);
+                let name = sheet::make_name(self.word).ok_or(fault)?;
+                let k = sheet::find_variable(&draft.tables.variables, name).ok_or(fault)?;
+                Ok(k as u16)
+            }
+        }
+    }
+
+    // The number again, where an expression or a statement has it.
+    pub(crate) fn look_there(self, draft: &Draft, n: u16) -> Result<u16, Fault>
+        ensures { result ≡ there (said draft.now) self.entry.at self.entry.role n }
+    {
+        let count = match self.role {
+            None | Some(Role::Variable) => return Ok(n),
+            Some(Role::Expression) => draft.tables.expressions.len(),
+            Some(Role::Statement) => draft.tables.statements.len(),
+        };
+        if usize::from(n) < count {
+            Ok(n)
+        } else {
+            Err(Fault::Operand(self.at))
+        }
     }
 }
 
@@ -66,18 +73,30 @@ pub(crate) fn read_operands(
 ) -> Result<Operands, Fault>
     ensures { result ≡ operands (said draft.now) roles a.now b.now c.now }
 {
-    let i = read_numeral(2, roles.first, a)?;
-    let j = read_numeral(3, roles.second, b)?;
-    let k = read_numeral(4, roles.third, c)?;
-    let i = resolve(draft, 2, roles.first, a, i)?;
-    let j = resolve(draft, 3, roles.second, b, j)?;
-    let k = resolve(draft, 4, roles.third, c, k)?;
-    let first = look_there(draft, 2, roles.first, i)?;
-    let second = look_there(draft, 3, roles.second, j)?;
-    let third = look_there(draft, 4, roles.third, k)?;
+    let a = Operand {
+        at: 2,
+        role: roles.first,
+        word: a,
+    };
+    let b = Operand {
+        at: 3,
+        role: roles.second,
+        word: b,
+    };
+    let c = Operand {
+        at: 4,
+        role: roles.third,
+        word: c,
+    };
+    let (i, j, k) = (a.numeral()?, b.numeral()?, c.numeral()?);
+    let (i, j, k) = (
+        a.resolve(draft, i)?,
+        b.resolve(draft, j)?,
+        c.resolve(draft, k)?,
+    );
     Ok(Operands {
-        first,
-        second,
-        third,
+        first: a.look_there(draft, i)?,
+        second: b.look_there(draft, j)?,
+        third: c.look_there(draft, k)?,
     })
 }

@@ -1,12 +1,14 @@
 // What a line says, or its fault.
 ghost use Rattle.std.specs.Prelude.{◌≡◌, ℕ, List, []};
 ghost use Rattle.drafts.specs.Said.{said};
-ghost use Rattle.lines.specs.Reading.{Spells, allowed, full, sized, expression_by, statement_by, constant, expression_of, statement_of, bound, upward, fresh, variable_of, run_of, admitted, item_of, line_of};
+ghost use Rattle.lines.specs.Reading.{Spells, allowed, full, sized, made, expression_by, statement_by, constant, expression_of, statement_of, bound, upward, fresh, variable_of, run_of, admitted, item_of, line_of};
 
+use crate::forms;
 use crate::items::{Fault, Keyword, Role, Words};
+use crate::operands::{Operand, read_operands};
+use crate::shapes::Operation;
 use crate::sizes::expression_size;
 use crate::words::cut_words;
-use crate::{forms, operands, shapes};
 use drafts::{Draft, Item};
 use sheet::{Expression, Name, Statement, Variable};
 use text::{Reader, same};
@@ -29,6 +31,21 @@ fn with_size(draft: &Draft, e: Expression) -> Result<Item, Fault>
     }
 }
 
+// What an operation is with the operands that are read from their words.
+fn make<O: Operation>(
+    draft: &Draft,
+    operation: Option<O>,
+    a: &[u8],
+    b: &[u8],
+    c: &[u8],
+) -> Result<O, Fault>
+    ensures { result ≡ made O.roles O.with (said draft.now) operation a.now b.now c.now }
+{
+    let operation = operation.ok_or(Fault::Form)?;
+    let operands = read_operands(draft, operation.roles(), a, b, c)?;
+    Ok(operation.with(operands))
+}
+
 // The expression that an operation makes of its operands' words.
 fn make_expression(
     draft: &Draft,
@@ -38,11 +55,7 @@ fn make_expression(
 ) -> Result<Item, Fault>
     ensures { result ≡ expression_by (said draft.now) form a.now b.now [] }
 {
-    let Some(e) = form else {
-        return Err(Fault::Form);
-    };
-    let o = operands::read_operands(draft, shapes::expression_roles(e), a, b, b"")?;
-    with_size(draft, shapes::expression_with(e, o))
+    with_size(draft, make(draft, form, a, b, b"")?)
 }
 
 // The statement that an operation makes of its operands' words.
@@ -55,21 +68,15 @@ fn make_statement(
 ) -> Result<Item, Fault>
     ensures { result ≡ statement_by (said draft.now) form a.now b.now c.now }
 {
-    let Some(s) = form else {
-        return Err(Fault::Form);
-    };
-    let o = operands::read_operands(draft, shapes::statement_roles(s), a, b, c)?;
-    Ok(Item::Statement(shapes::statement_with(s, o)))
+    Ok(Item::Statement(make(draft, form, a, b, c)?))
 }
 
 // The constant of `num C`.
 fn read_constant(draft: &Draft, word: &[u8]) -> Result<Item, Fault>
     ensures { result ≡ constant (said draft.now) word.now }
 {
-    match text::number(word) {
-        Some(n) => with_size(draft, Expression::Num(n)),
-        None => Err(Fault::Number(2)),
-    }
+    let n = text::number(word).ok_or(Fault::Number(2))?;
+    with_size(draft, Expression::Num(n))
 }
 
 // An `expr` line.
@@ -86,7 +93,7 @@ fn read_expression(draft: &Draft, words: Words) -> Result<Item, Fault>
             }
         }
         Words::Three(op, a, b) => make_expression(draft, forms::double_expression(op), a, b),
-        Words::Four(_, _, _, _) | Words::More => Err(Fault::Form),
+        Words::Four(_, _, _, _) => Err(Fault::Form),
     }
 }
 
@@ -99,7 +106,6 @@ fn read_statement(draft: &Draft, words: Words) -> Result<Item, Fault>
         Words::Two(op, a) => make_statement(draft, forms::single_statement(op), a, b"", b""),
         Words::Three(op, a, b) => make_statement(draft, forms::double_statement(op), a, b, b""),
         Words::Four(op, a, b, c) => make_statement(draft, forms::triple_statement(op), a, b, c),
-        Words::More => Err(Fault::Form),
     }
 }
 
@@ -107,10 +113,7 @@ fn read_statement(draft: &Draft, words: Words) -> Result<Item, Fault>
 fn read_bound(at: u8, word: &[u8]) -> Result<i32, Fault>
     ensures { result ≡ bound at word.now }
 {
-    match text::number(word) {
-        Some(n) => Ok(n),
-        None => Err(Fault::Number(at)),
-    }
+    text::number(word).ok_or(Fault::Number(at))
 }
 
 // HIGH, which is not below LOW.
@@ -128,9 +131,7 @@ fn upward_from(low: i32, high: i32) -> Result<i32, Fault>
 fn fresh_name(draft: &Draft, word: &[u8]) -> Result<Name, Fault>
     ensures { result ≡ fresh (said draft.now) word.now }
 {
-    let Some(name) = sheet::make_name(word) else {
-        return Err(Fault::Name(1));
-    };
+    let name = sheet::make_name(word).ok_or(Fault::Name(1))?;
     match sheet::find_variable(&draft.tables.variables, name) {
         Some(_) => Err(Fault::Name(1)),
         None => Ok(name),
@@ -158,8 +159,9 @@ fn read_run(draft: &Draft, words: Words) -> Result<Item, Fault>
     let Words::One(word) = words else {
         return Err(Fault::Form);
     };
-    let n = operands::read_numeral(1, Role::Statement, word)?;
-    let n = operands::look_there(draft, 1, Role::Statement, n)?;
+    let role = Some(Role::Statement);
+    let operand = Operand { at: 1, role, word };
+    let n = operand.look_there(draft, operand.numeral()?)?;
     Ok(Item::Run(n))
 }
 
@@ -178,7 +180,6 @@ fn may_stand(draft: &Draft, key: Keyword) -> bool
             && draft.run.is_none(),
         Keyword::Stmt => tables.variables.len() > 0 && draft.run.is_none(),
         Keyword::Run => tables.variables.len() > 0 && tables.statements.len() > 0,
-        Keyword::Unknown => false,
     }
 }
 
@@ -192,7 +193,6 @@ fn is_full(draft: &Draft, key: Keyword) -> bool
         Keyword::Expr => draft.tables.expressions.len() >= sheet::MOST_EXPRESSIONS,
         Keyword::Stmt => draft.tables.statements.len() >= sheet::MOST_STATEMENTS,
         Keyword::Run => draft.run.is_some(),
-        Keyword::Unknown => false,
     }
 }
 
@@ -219,7 +219,6 @@ fn read_item(draft: &Draft, key: Keyword, words: Words) -> Result<Item, Fault>
         Keyword::Expr => read_expression(draft, words),
         Keyword::Stmt => read_statement(draft, words),
         Keyword::Run => read_run(draft, words),
-        Keyword::Unknown => Err(Fault::Key),
     }
 }
 
@@ -234,6 +233,7 @@ pub fn read_line(draft: &Draft, line: &[u8]) -> Result<Item, Fault>
     let Some(word) = reader.key() else {
         return Err(Fault::Key);
     };
-    let key = admit(draft, forms::keyword(word))?;
-    read_item(draft, key, cut_words(&mut reader))
+    let key = admit(draft, forms::keyword(word).ok_or(Fault::Key)?)?;
+    let words = cut_words(&mut reader).ok_or(Fault::Form)?;
+    read_item(draft, key, words)
 }

@@ -10,24 +10,18 @@ use sheet::{Expression, Operator};
 fn reach_at(draft: &Draft, x: u16) -> u32
     ensures { result ≡ reach (variable_at draft.now.tables.variables.items x) }
 {
-    let x = x as usize;
-    if x >= draft.tables.variables.len() {
-        return 0;
-    }
-    let v = draft.tables.variables[x];
-    v.low.unsigned_abs().max(v.high.unsigned_abs())
+    draft
+        .tables
+        .variables
+        .get(usize::from(x))
+        .map_or(0, |v| v.low.unsigned_abs().max(v.high.unsigned_abs()))
 }
 
 // The size of expression `k`.
 fn size_at(draft: &Draft, k: u16) -> u32
     ensures { result ≡ slice_index draft.now.sizes.items k }
 {
-    let k = k as usize;
-    if k < draft.sizes.len() {
-        draft.sizes[k]
-    } else {
-        0
-    }
+    draft.sizes.get(usize::from(k)).copied().unwrap_or(0)
 }
 
 // The size of a pair, from those of its operands.
@@ -35,8 +29,8 @@ fn pair_size(o: Operator, m: u32, n: u32) -> u64
     ensures { result ≡ size_of o m n }
 {
     match o {
-        Operator::Add | Operator::Sub => m as u64 + n as u64,
-        Operator::Mul => m as u64 * n as u64,
+        Operator::Add | Operator::Sub => u64::from(m) + u64::from(n),
+        Operator::Mul => u64::from(m) * u64::from(n),
         Operator::Eq | Operator::Lt | Operator::Both | Operator::Either => 1,
     }
 }
@@ -46,8 +40,8 @@ pub(crate) fn expression_size(draft: &Draft, e: Expression) -> u64
     ensures { result ≡ size draft.now.tables.variables.items draft.now.sizes.items e }
 {
     match e {
-        Expression::Num(c) => c.unsigned_abs() as u64,
-        Expression::Val(x) => reach_at(draft, x) as u64,
+        Expression::Num(c) => u64::from(c.unsigned_abs()),
+        Expression::Val(x) => u64::from(reach_at(draft, x)),
         Expression::Pair(o, a, b) => pair_size(o, size_at(draft, a), size_at(draft, b)),
         Expression::Not(_) | Expression::Last => 1,
     }

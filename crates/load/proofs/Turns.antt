@@ -1,11 +1,16 @@
 -- A turn of the loop over the lines. Assumes nothing.
-use Rattle.std.proofs.Common.{◌≡◌, ℕ, ◌+◌, List, [], ◌∷◌, length, Ok, sym, ap, ◌∙◌, subst, arith}
+use Rattle.std.proofs.Common.{◌≡◌, ℕ, ◌+◌, List, [], ◌∷◌, length, Some, Ok, Err, Result, sym, ap, ◌∙◌, subst, arith}
+use Rattle.std.specs.Result.{MatchResult, IsErrAnd, result_ok}
 use Rattle.sheet.specs.Sizes.{size}
 use Rattle.sheet.proofs.Tabled.{tabled_length}
 use Rattle.drafts.specs.declared.items.Item.{Item}
-use Rattle.drafts.specs.Said.{Said, added, Room}
+use Rattle.drafts.specs.Said.{Said, said, added, Room}
 use Rattle.lines.specs.Reading.{line_of}
-use Rattle.verdict.specs.Verdict.{on_line, lines_of}
+use Rattle.verdict.specs.Verdict.{sheet_of, on_line, lines_of}
+use Rattle.verdict.specs.declared.refusals.Refusal.{Refusal}
+use Rattle.sheet.specs.Content.{Content}
+use Rattle.drafts.specs.declared.held.Draft.{Draft}
+use Rattle.load.specs.Loading.{Drafted}
 use Rattle.verdict.proofs.Taken.{Fit, line_taken}
 use Rattle.verdict.proofs.Chains.{Good, good_more}
 
@@ -14,6 +19,16 @@ fit_room d (Item.Variable v) g f = f.0.3
 fit_room d (Item.Expression e n) g f = (f.0.3, omega (arith, f.0.3, ap length g.sized, tabled_length (size d.variables) d.expressions []))
 fit_room d (Item.Statement s) g f = f.0.2
 fit_room d (Item.Run n) g f = tt
+
+-- an answer that is still there once its fault would have been changed
+pub item_read : {A E F : Type 0} (r : Result A E) (s : Result A F) (x : A) (P : E → F → Type 0) → MatchResult r (λ y. s ≡ Ok y) (λ e. IsErrAnd s (P e)) → s ≡ Ok x → Ok x ≡ r
+item_read (Ok y) s x P h e = let same : x ≡ y = cc in ap Ok same
+item_read (Err f) s x P h e = absurd (subst (λ t. IsErrAnd t (P f)) e h)
+
+-- a reading that came to a sheet, whose run number is n
+pub drafted_ok : (r : Result ℕ Refusal) (n : ℕ) (d : Draft) (v : Result Content Refusal) → Some n ≡ result_ok r → Drafted r d v → v ≡ Ok (sheet_of (said d) n)
+drafted_ok (Ok m) n d v e h = let same : m ≡ n = cc in h ∙ ap (λ k. Ok (sheet_of (said d) k)) same
+drafted_ok (Err f) n d v e h = absurd (let z : ◌≡◌ {A = ℕ} 0 1 = cc in omega arith)
 
 -- there is room for a line that was taken
 pub room : (d : Said) (l : List ℕ) (x : Item) → Good d → Ok x ≡ line_of d l → Room d x

@@ -30,13 +30,9 @@ impl Loader {
         ensures accepts { AcceptsTheSheets }
         ensures refuses { TellsTheFirstFault }
     {
-        match read_text(&mut self.draft, text) {
-            Ok(run) => {
-                self.sheet.trade(&mut self.draft.tables, run);
-                Ok(())
-            }
-            Err(refusal) => Err(refusal),
-        }
+        let run = read_text(&mut self.draft, text)?;
+        self.sheet.trade(&mut self.draft.tables, run);
+        Ok(())
     }
 
     // The sheet that is held.
@@ -51,15 +47,11 @@ impl Loader {
         ensures name { NameOf text.entry k result }
         ensures same { self.new.sheet ≡ self.old.sheet }
     {
-        match read_text(&mut self.draft, text) {
-            Ok(_) => {
-                if k < self.draft.tables.variables.len() {
-                    name_at(text, k + 1)
-                } else {
-                    None
-                }
-            }
-            Err(_) => None,
+        read_text(&mut self.draft, text).ok()?;
+        if k < self.draft.tables.variables.len() {
+            name_at(text, k + 1)
+        } else {
+            None
         }
     }
 }

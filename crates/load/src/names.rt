@@ -9,9 +9,7 @@ fn line_at(text: &[u8], k: usize) -> Option<&[u8]>
 {
     let mut reader = Reader::new(text);
     for _i in 0..k {
-        let Some(_line) = reader.line() else {
-            return None;
-        };
+        reader.line()?;
     }
     reader.line()
 }
@@ -20,6 +18,7 @@ fn line_at(text: &[u8], k: usize) -> Option<&[u8]>
 fn name_in(line: &[u8]) -> Option<&[u8]>
     ensures { NameIn line.entry result }
 {
+    // An index, since `get` does not say where the part stands.
     if line.len() < 4 {
         return None;
     }
@@ -31,12 +30,7 @@ fn name_in(line: &[u8]) -> Option<&[u8]>
 pub(crate) fn name_at(text: &[u8], n: usize) -> Option<&[u8]>
     ensures { NameAt text.entry n result }
 {
-    if text.len() == 0 {
-        return None;
-    }
-    let end = text.len() - 1;
-    match line_at(&text[0..end], n) {
-        Some(line) => name_in(line),
-        None => None,
-    }
+    // An index, since `split_last` does not say where the part stands.
+    let end = text.len().checked_sub(1)?;
+    name_in(line_at(&text[..end], n)?)
 }

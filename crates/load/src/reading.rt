@@ -21,33 +21,26 @@ fn read_lines(draft: &mut Draft, reader: &mut Reader) -> Result<u16, Refusal>
 {
     let mut n = 2u32;
     while let Some(line) = reader.line() {
-        match lines::read_line(draft, line) {
-            Ok(item) => draft.add(item),
-            Err(fault) => return Err(Refusal::Line(n, fault)),
-        }
+        let item = lines::read_line(draft, line).map_err(|fault| Refusal::Line(n, fault))?;
+        draft.add(item);
         n += 1;
     }
-    match draft.run {
-        Some(run) => Ok(run),
-        None => Err(Refusal::NoRun(n)),
-    }
+    draft.run.ok_or(Refusal::NoRun(n))
 }
 
 // Reads a text. The draft then holds the sheet that the text spells, and its run number is answered; or the text is refused.
 pub(crate) fn read_text(draft: &mut Draft, text: &[u8]) -> Result<u16, Refusal>
     ensures { Drafted result draft.new (verdict text.now) }
 {
-    if text.len() == 0 || text.len() > LONGEST_TEXT {
+    if text.len() > LONGEST_TEXT {
         return Err(Refusal::Length);
     }
-    let end = text.len() - 1;
-    if text[end] != b'\n' {
+    let (end, lines) = text.split_last().ok_or(Refusal::Length)?;
+    if *end != b'\n' {
         return Err(Refusal::Unended);
     }
-    let mut reader = Reader::new(&text[0..end]);
-    let Some(first) = reader.line() else {
-        return Err(Refusal::Header);
-    };
+    let mut reader = Reader::new(lines);
+    let first = reader.line().ok_or(Refusal::Header)?;
     if !same(first, b"sheet=2") {
         return Err(Refusal::Header);
     }

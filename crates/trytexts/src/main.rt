@@ -10,6 +10,7 @@ fn main(rt: HostRuntime) -> io::Result<()> {
     let mut loader = Loader::new(rt.alloc())?;
     let mut input = BufReader::new(rt.alloc(), rt.stdin())?;
     let mut text = Vec::new(rt.alloc());
+    // A bound, since a reader does not say that its lines end.
     for _ in 0..u64::MAX {
         text.clear();
         if input.read_until(b'\n', &mut text)? == 0 {
@@ -36,11 +37,6 @@ fn to_text(line: &mut Vec<u8>) {
 fn answer(rt: &HostRuntime, loader: &mut Loader, text: &[u8]) -> io::Result<()> {
     match loader.load(text) {
         Ok(()) => println!(rt; "accepted"),
-        Err(refusal) => {
-            let number = refusal.number();
-            let line = refusal.line();
-            let word = refusal.word();
-            println!(rt; "{number} {line} {word}")
-        }
+        Err(refusal) => println!(rt; "{refusal}"),
     }
 }

@@ -23,7 +23,7 @@ use Rattle.lines.specs.declared.items.Role.TheVariants as Role
 use Rattle.drafts.specs.Said.{Said}
 use Rattle.lines.specs.Forms.{keyword_of, double_expression}
 use Rattle.lines.specs.Reading.{allowed, full, sized, expression_by, expression_of, statement_of, variable_of, run_of, item_of, admitted, line_of}
-use Rattle.verdict.proofs.Steps.{then_is}
+use Rattle.verdict.proofs.Steps.{then_is, then_made}
 use Rattle.verdict.proofs.Pieces.{lacks, Plain, AllPlain, plain_decimal, plain_signed, plain_letters, parted-spaced, lacks-spaced, short_spaced}
 use Rattle.verdict.proofs.Names.{proper_parts, name_back, variable_parts}
 use Rattle.verdict.proofs.Roles.{Steady, operands-read, operand_plain}
@@ -51,36 +51,36 @@ statement_ready d More st ok =
     record { plain = (literal (codes "more") refl refl (omega arith), tt); some = omega arith; few = omega arith; read = refl }
 statement_ready d (Is x e) st ok =
     let p = and_parts (ltb x (length d.variables)) (ltb e (length d.expressions)) ok in
-    record { plain = (literal (codes "is") refl refl (omega arith), (operand_plain d Role.Variable x st p.0, (operand_plain d Role.Expression e st p.1, tt))); some = omega arith; few = omega arith; read = then_is _ _ _ (operands-read d Role.Variable Role.Expression Role.Absent x e 0 st p.0 p.1 refl) }
+    record { plain = (literal (codes "is") refl refl (omega arith), (operand_plain d (Some Role.Variable) x st p.0, (operand_plain d (Some Role.Expression) e st p.1, tt))); some = omega arith; few = omega arith; read = then_made _ _ _ _ (operands-read d (Some Role.Variable) (Some Role.Expression) None x e 0 st p.0 p.1 refl) }
 statement_ready d (And x y) st ok =
     let p = and_parts (ltb x (length d.statements)) (ltb y (length d.statements)) ok in
-    record { plain = (literal (codes "and") refl refl (omega arith), (operand_plain d Role.Statement x st p.0, (operand_plain d Role.Statement y st p.1, tt))); some = omega arith; few = omega arith; read = then_is _ _ _ (operands-read d Role.Statement Role.Statement Role.Absent x y 0 st p.0 p.1 refl) }
+    record { plain = (literal (codes "and") refl refl (omega arith), (operand_plain d (Some Role.Statement) x st p.0, (operand_plain d (Some Role.Statement) y st p.1, tt))); some = omega arith; few = omega arith; read = then_made _ _ _ _ (operands-read d (Some Role.Statement) (Some Role.Statement) None x y 0 st p.0 p.1 refl) }
 statement_ready d (If e x y) st ok =
     let p = and_parts (ltb e (length d.expressions)) _ ok in
     let q = and_parts (ltb x (length d.statements)) (ltb y (length d.statements)) p.1 in
-    record { plain = (literal (codes "if") refl refl (omega arith), (operand_plain d Role.Expression e st p.0, (operand_plain d Role.Statement x st q.0, (operand_plain d Role.Statement y st q.1, tt)))); some = omega arith; few = omega arith; read = then_is _ _ _ (operands-read d Role.Expression Role.Statement Role.Statement e x y st p.0 q.0 q.1) }
+    record { plain = (literal (codes "if") refl refl (omega arith), (operand_plain d (Some Role.Expression) e st p.0, (operand_plain d (Some Role.Statement) x st q.0, (operand_plain d (Some Role.Statement) y st q.1, tt)))); some = omega arith; few = omega arith; read = then_made _ _ _ _ (operands-read d (Some Role.Expression) (Some Role.Statement) (Some Role.Statement) e x y st p.0 q.0 q.1) }
 statement_ready d (Next x) st ok =
-    record { plain = (literal (codes "next") refl refl (omega arith), (operand_plain d Role.Statement x st ok, tt)); some = omega arith; few = omega arith; read = then_is _ _ _ (operands-read d Role.Statement Role.Absent Role.Absent x 0 0 st ok refl refl) }
+    record { plain = (literal (codes "next") refl refl (omega arith), (operand_plain d (Some Role.Statement) x st ok, tt)); some = omega arith; few = omega arith; read = then_made _ _ _ _ (operands-read d (Some Role.Statement) None None x 0 0 st ok refl refl) }
 statement_ready d (Always x) st ok =
-    record { plain = (literal (codes "always") refl refl (omega arith), (operand_plain d Role.Statement x st ok, tt)); some = omega arith; few = omega arith; read = then_is _ _ _ (operands-read d Role.Statement Role.Absent Role.Absent x 0 0 st ok refl refl) }
+    record { plain = (literal (codes "always") refl refl (omega arith), (operand_plain d (Some Role.Statement) x st ok, tt)); some = omega arith; few = omega arith; read = then_made _ _ _ _ (operands-read d (Some Role.Statement) None None x 0 0 st ok refl refl) }
 statement_ready d (Halt e) st ok =
-    record { plain = (literal (codes "halt") refl refl (omega arith), (operand_plain d Role.Expression e st ok, tt)); some = omega arith; few = omega arith; read = then_is _ _ _ (operands-read d Role.Expression Role.Absent Role.Absent e 0 0 st ok refl refl) }
+    record { plain = (literal (codes "halt") refl refl (omega arith), (operand_plain d (Some Role.Expression) e st ok, tt)); some = omega arith; few = omega arith; read = then_made _ _ _ _ (operands-read d (Some Role.Expression) None None e 0 0 st ok refl refl) }
 statement_ready d (Len e) st ok =
-    record { plain = (literal (codes "len") refl refl (omega arith), (operand_plain d Role.Expression e st ok, tt)); some = omega arith; few = omega arith; read = then_is _ _ _ (operands-read d Role.Expression Role.Absent Role.Absent e 0 0 st ok refl refl) }
+    record { plain = (literal (codes "len") refl refl (omega arith), (operand_plain d (Some Role.Expression) e st ok, tt)); some = omega arith; few = omega arith; read = then_made _ _ _ _ (operands-read d (Some Role.Expression) None None e 0 0 st ok refl refl) }
 statement_ready d (Gets x e) st ok =
     let p = and_parts (ltb x (length d.variables)) (ltb e (length d.expressions)) ok in
-    record { plain = (literal (codes "gets") refl refl (omega arith), (operand_plain d Role.Variable x st p.0, (operand_plain d Role.Expression e st p.1, tt))); some = omega arith; few = omega arith; read = then_is _ _ _ (operands-read d Role.Variable Role.Expression Role.Absent x e 0 st p.0 p.1 refl) }
+    record { plain = (literal (codes "gets") refl refl (omega arith), (operand_plain d (Some Role.Variable) x st p.0, (operand_plain d (Some Role.Expression) e st p.1, tt))); some = omega arith; few = omega arith; read = then_made _ _ _ _ (operands-read d (Some Role.Variable) (Some Role.Expression) None x e 0 st p.0 p.1 refl) }
 statement_ready d (Chop x y) st ok =
     let p = and_parts (ltb x (length d.statements)) (ltb y (length d.statements)) ok in
-    record { plain = (literal (codes "chop") refl refl (omega arith), (operand_plain d Role.Statement x st p.0, (operand_plain d Role.Statement y st p.1, tt))); some = omega arith; few = omega arith; read = then_is _ _ _ (operands-read d Role.Statement Role.Statement Role.Absent x y 0 st p.0 p.1 refl) }
+    record { plain = (literal (codes "chop") refl refl (omega arith), (operand_plain d (Some Role.Statement) x st p.0, (operand_plain d (Some Role.Statement) y st p.1, tt))); some = omega arith; few = omega arith; read = then_made _ _ _ _ (operands-read d (Some Role.Statement) (Some Role.Statement) None x y 0 st p.0 p.1 refl) }
 statement_ready d (For e x) st ok =
     let p = and_parts (ltb e (length d.expressions)) (ltb x (length d.statements)) ok in
-    record { plain = (literal (codes "for") refl refl (omega arith), (operand_plain d Role.Expression e st p.0, (operand_plain d Role.Statement x st p.1, tt))); some = omega arith; few = omega arith; read = then_is _ _ _ (operands-read d Role.Expression Role.Statement Role.Absent e x 0 st p.0 p.1 refl) }
+    record { plain = (literal (codes "for") refl refl (omega arith), (operand_plain d (Some Role.Expression) e st p.0, (operand_plain d (Some Role.Statement) x st p.1, tt))); some = omega arith; few = omega arith; read = then_made _ _ _ _ (operands-read d (Some Role.Expression) (Some Role.Statement) None e x 0 st p.0 p.1 refl) }
 statement_ready d (While e x) st ok =
     let p = and_parts (ltb e (length d.expressions)) (ltb x (length d.statements)) ok in
-    record { plain = (literal (codes "while") refl refl (omega arith), (operand_plain d Role.Expression e st p.0, (operand_plain d Role.Statement x st p.1, tt))); some = omega arith; few = omega arith; read = then_is _ _ _ (operands-read d Role.Expression Role.Statement Role.Absent e x 0 st p.0 p.1 refl) }
+    record { plain = (literal (codes "while") refl refl (omega arith), (operand_plain d (Some Role.Expression) e st p.0, (operand_plain d (Some Role.Statement) x st p.1, tt))); some = omega arith; few = omega arith; read = then_made _ _ _ _ (operands-read d (Some Role.Expression) (Some Role.Statement) None e x 0 st p.0 p.1 refl) }
 statement_ready d (Request x) st ok =
-    record { plain = (literal (codes "request") refl refl (omega arith), (operand_plain d Role.Variable x st ok, tt)); some = omega arith; few = omega arith; read = then_is _ _ _ (operands-read d Role.Variable Role.Absent Role.Absent x 0 0 st ok refl refl) }
+    record { plain = (literal (codes "request") refl refl (omega arith), (operand_plain d (Some Role.Variable) x st ok, tt)); some = omega arith; few = omega arith; read = then_made _ _ _ _ (operands-read d (Some Role.Variable) None None x 0 0 st ok refl refl) }
 
 -- ---- expressions
 sized-read : (d : Said) (e : Expression) (n : ℕ) → n ≡ size d.variables d.sizes e → n ≤ 1000000000 → sized d e ≡ Ok (Item.Expression e n)
@@ -108,7 +108,7 @@ operator_named Operator.Either = refl
 pair_read : (d : Said) (o : Operator) (a b n : ℕ) → Steady d → ltb a (length d.expressions) ≡ true → ltb b (length d.expressions) ≡ true → n ≡ size d.variables d.sizes (Pair o a b) → n ≤ 1000000000 → expression_of d (expression_words d.variables (Pair o a b)) ≡ Ok (Item.Expression (Pair o a b) n)
 pair_read d o a b n st p q is le =
     ap (λ f. expression_by d f (decimal a) (decimal b) []) (operator_named o)
-    ∙ then_is _ _ _ (operands-read d Role.Expression Role.Expression Role.Absent a b 0 st p q refl) ∙ sized-read d (Pair o a b) n is le
+    ∙ then_made _ _ _ _ (operands-read d (Some Role.Expression) (Some Role.Expression) None a b 0 st p q refl) ∙ sized-read d (Pair o a b) n is le
 
 expression_ready : (d : Said) (e : Expression) (n : ℕ) → Steady d → expression_ok (length d.variables) (length d.expressions) e ≡ true → n ≡ size d.variables d.sizes e → n ≤ 1000000000 → Ready (expression_of d) (expression_words d.variables e) (Item.Expression e n)
 expression_ready d (Num z) n st ok is le =
@@ -120,12 +120,12 @@ expression_ready d (Num z) n st ok is le =
       read = then_is _ _ _ (ap (λ o. ok_or o (Fault.Number 2)) (number_some 1000000 (signed_decimal z) z (omega arith) refl small)) ∙ sized-read d (Num z) n is le;
     }
 expression_ready d (Val x) n st ok is le =
-    record { plain = (literal (codes "val") refl refl (omega arith), (operand_plain d Role.Variable x st ok, tt)); some = omega arith; few = omega arith; read = then_is _ _ _ (operands-read d Role.Variable Role.Absent Role.Absent x 0 0 st ok refl refl) ∙ sized-read d (Val x) n is le }
+    record { plain = (literal (codes "val") refl refl (omega arith), (operand_plain d (Some Role.Variable) x st ok, tt)); some = omega arith; few = omega arith; read = then_made _ _ _ _ (operands-read d (Some Role.Variable) None None x 0 0 st ok refl refl) ∙ sized-read d (Val x) n is le }
 expression_ready d (Pair o a b) n st ok is le =
     let p = and_parts (ltb a (length d.expressions)) (ltb b (length d.expressions)) ok in
-    record { plain = (operator_plain o, (operand_plain d Role.Expression a st p.0, (operand_plain d Role.Expression b st p.1, tt))); some = omega arith; few = omega arith; read = pair_read d o a b n st p.0 p.1 is le }
+    record { plain = (operator_plain o, (operand_plain d (Some Role.Expression) a st p.0, (operand_plain d (Some Role.Expression) b st p.1, tt))); some = omega arith; few = omega arith; read = pair_read d o a b n st p.0 p.1 is le }
 expression_ready d (Not a) n st ok is le =
-    record { plain = (literal (codes "not") refl refl (omega arith), (operand_plain d Role.Expression a st ok, tt)); some = omega arith; few = omega arith; read = then_is _ _ _ (operands-read d Role.Expression Role.Absent Role.Absent a 0 0 st ok refl refl) ∙ sized-read d (Not a) n is le }
+    record { plain = (literal (codes "not") refl refl (omega arith), (operand_plain d (Some Role.Expression) a st ok, tt)); some = omega arith; few = omega arith; read = then_made _ _ _ _ (operands-read d (Some Role.Expression) None None a 0 0 st ok refl refl) ∙ sized-read d (Not a) n is le }
 expression_ready d Last n st ok is le =
     record { plain = (literal (codes "last") refl refl (omega arith), tt); some = omega arith; few = omega arith; read = sized-read d Last n is le }
 
@@ -158,11 +158,11 @@ admit_ok d k a f = cond-true (allowed d k) _ _ a ∙ cond-false (full d k) _ _ f
 abbrev pub Given : Said → Item → Type 0
 Given d x = (line_of d (line_text d.variables x) ≡ Ok x) × (lacks 10 (line_text d.variables x) ≡ true)
 
-line_whole : (d : Said) (l key v : List ℕ) (k : Keyword) (ws : List (List ℕ)) (x : Item) → before 61 l ≡ key → after 61 l ≡ v → length l ≤ 64 → length key < length l → keyword_of key ≡ k → allowed d k ≡ true → full d k ≡ false → parted 32 v ≡ ws → item_of d k ws ≡ Ok x → line_of d l ≡ Ok x
+line_whole : (d : Said) (l key v : List ℕ) (k : Keyword) (ws : List (List ℕ)) (x : Item) → before 61 l ≡ key → after 61 l ≡ v → length l ≤ 64 → length key < length l → keyword_of key ≡ Some k → allowed d k ≡ true → full d k ≡ false → parted 32 v ≡ ws → item_of d k ws ≡ Ok x → line_of d l ≡ Ok x
 line_whole d l key v k ws x b a short more kw al fu words item =
     cond-false (ltb 64 (length l)) _ _ (le-ltb 64 _ short)
-    ∙ cond-false (eqb (length (before 61 l)) (length l)) _ _ (ne_eqb _ _ (λ q. omega (arith, ap length b)))
-    ∙ then_is _ k _ (ap (admitted d) (ap keyword_of b ∙ kw) ∙ admit_ok d k al fu)
+    ∙ then_is _ k _ (ap (λ o. ok_or o Fault.Key) (cond-false (eqb (length (before 61 l)) (length l)) _ _ (ne_eqb _ _ (λ q. omega (arith, ap length b))) ∙ ap keyword_of b ∙ kw))
+    ∙ then_is _ k _ (admit_ok d k al fu)
     ∙ ap (item_of d k) (ap (parted 32) a ∙ words) ∙ item
 
 empty_eqb : {X : Type 0} (xs : List X) → xs ≡ [] → eqb (length xs) 0 ≡ true

@@ -1,5 +1,5 @@
 -- Operands: what their words say, both ways. Assumes nothing.
-use Rattle.std.proofs.Common.{◌≡◌, ℕ, ◌<◌, ◌≤◌, Bool, true, cond, eqb, ltb, List, [], length, Ok, Err, decimal, sym, refl, ap, ◌∙◌, subst, arith}
+use Rattle.std.proofs.Common.{◌≡◌, ℕ, ◌<◌, ◌≤◌, Bool, true, cond, eqb, ltb, List, [], length, None, Some, Ok, Err, Option, decimal, sym, refl, ap, ◌∙◌, subst, arith}
 use Rattle.std.specs.Option.{ok_or}
 use Rattle.std.proofs.lemmas.Bool.{ltb-true, lt-ltb, eqb-true, cond-true}
 use Rattle.text.specs.Decimals.{natural_of}
@@ -18,29 +18,29 @@ use Rattle.verdict.proofs.Pieces.{Plain, plain_decimal, plain_letters}
 use Rattle.verdict.proofs.Names.{variable_is, variable_back, name_plain}
 
 -- what is written of an operand
-abbrev pub operand_word : List Variable → Role → ℕ → List ℕ
-operand_word vs Role.Absent k = []
-operand_word vs Role.Variable k = name_at vs k
-operand_word vs Role.Expression k = decimal k
-operand_word vs Role.Statement k = decimal k
+abbrev pub operand_word : List Variable → Option Role → ℕ → List ℕ
+operand_word vs None k = []
+operand_word vs (Some Role.Variable) k = name_at vs k
+operand_word vs (Some Role.Expression) k = decimal k
+operand_word vs (Some Role.Statement) k = decimal k
 
 -- an operand that is there, where there are n variables, m expressions and p statements
-abbrev pub operand_ok : ℕ → ℕ → ℕ → Role → ℕ → Bool
-operand_ok n m p Role.Absent k = eqb k 0
-operand_ok n m p Role.Variable k = ltb k n
-operand_ok n m p Role.Expression k = ltb k m
-operand_ok n m p Role.Statement k = ltb k p
+abbrev pub operand_ok : ℕ → ℕ → ℕ → Option Role → ℕ → Bool
+operand_ok n m p None k = eqb k 0
+operand_ok n m p (Some Role.Variable) k = ltb k n
+operand_ok n m p (Some Role.Expression) k = ltb k m
+operand_ok n m p (Some Role.Statement) k = ltb k p
 
-abbrev pub ok_in : Said → Role → ℕ → Bool
+abbrev pub ok_in : Said → Option Role → ℕ → Bool
 ok_in d r k = operand_ok (length d.variables) (length d.expressions) (length d.statements) r k
 
 -- ---- what was read
 -- the word w was read as operand k; that of an absent one does not matter
-abbrev pub Says : Said → Role → List ℕ → ℕ → Type 0
-Says d Role.Absent w k = k ≡ 0
-Says d Role.Variable w k = (w ≡ operand_word d.variables Role.Variable k) × (ok_in d Role.Variable k ≡ true)
-Says d Role.Expression w k = (w ≡ operand_word d.variables Role.Expression k) × (ok_in d Role.Expression k ≡ true)
-Says d Role.Statement w k = (w ≡ operand_word d.variables Role.Statement k) × (ok_in d Role.Statement k ≡ true)
+abbrev pub Says : Said → Option Role → List ℕ → ℕ → Type 0
+Says d None w k = k ≡ 0
+Says d (Some Role.Variable) w k = (w ≡ operand_word d.variables (Some Role.Variable) k) × (ok_in d (Some Role.Variable) k ≡ true)
+Says d (Some Role.Expression) w k = (w ≡ operand_word d.variables (Some Role.Expression) k) × (ok_in d (Some Role.Expression) k ≡ true)
+Says d (Some Role.Statement) w k = (w ≡ operand_word d.variables (Some Role.Statement) k) × (ok_in d (Some Role.Statement) k ≡ true)
 
 numbered : (d : Said) (at : ℕ) (w : List ℕ) (i k n : ℕ) → ok_or (natural_of 199 w) (Fault.Number at) ≡ Ok i → cond (ltb i n) (Ok i) (Err (Fault.Operand at)) ≡ Ok k → (w ≡ decimal k) × (ltb k n ≡ true)
 numbered d at w i k n p q =
@@ -49,16 +49,16 @@ numbered d at w i k n p q =
     let same : i ≡ k = same_ok l.1 in
     (t.0 ∙ ap decimal same, ap (λ x. ltb x n) (sym same) ∙ l.0)
 
-pub operand_says : (d : Said) (at : ℕ) (r : Role) (w : List ℕ) (i j k : ℕ) → numeral at r w ≡ Ok i → resolved d at r w i ≡ Ok j → there d at r j ≡ Ok k → Says d r w k
-operand_says d at Role.Absent w i j k p q s = sym (same_ok s) ∙ sym (same_ok q) ∙ sym (same_ok p)
-operand_says d at Role.Variable w i j k p q s =
+pub operand_says : (d : Said) (at : ℕ) (r : Option Role) (w : List ℕ) (i j k : ℕ) → numeral at r w ≡ Ok i → resolved d at r w i ≡ Ok j → there d at r j ≡ Ok k → Says d r w k
+operand_says d at None w i j k p q s = sym (same_ok s) ∙ sym (same_ok q) ∙ sym (same_ok p)
+operand_says d at (Some Role.Variable) w i j k p q s =
     let f = variable_is d w j (or_ok (number_by d (name_of w)) (Fault.Name at) j q) in
     let same : j ≡ k = same_ok s in
     (f.0 ∙ ap (name_at d.variables) same, lt-ltb k (length d.variables) (omega (arith, f.1)))
-operand_says d at Role.Expression w i j k p q s =
+operand_says d at (Some Role.Expression) w i j k p q s =
     let same : i ≡ j = same_ok q in
     numbered d at w j k (length d.expressions) (p ∙ ap Ok same) s
-operand_says d at Role.Statement w i j k p q s =
+operand_says d at (Some Role.Statement) w i j k p q s =
     let same : i ≡ j = same_ok q in
     numbered d at w j k (length d.statements) (p ∙ ap Ok same) s
 
@@ -87,11 +87,11 @@ operands_say d r a b c o q =
     })
 
 -- the operand is there
-pub says_ok : (d : Said) (r : Role) (w : List ℕ) (k : ℕ) → Says d r w k → ok_in d r k ≡ true
-says_ok d Role.Absent w k s = ap (λ x. eqb x 0) s
-says_ok d Role.Variable w k s = s.1
-says_ok d Role.Expression w k s = s.1
-says_ok d Role.Statement w k s = s.1
+pub says_ok : (d : Said) (r : Option Role) (w : List ℕ) (k : ℕ) → Says d r w k → ok_in d r k ≡ true
+says_ok d None w k s = ap (λ x. eqb x 0) s
+says_ok d (Some Role.Variable) w k s = s.1
+says_ok d (Some Role.Expression) w k s = s.1
+says_ok d (Some Role.Statement) w k s = s.1
 
 -- ---- what is written is read
 -- what the tables keep, so that an operand is read as it was written
@@ -101,42 +101,42 @@ pub record Steady (d : Said) : Type 0 where
   pub statements : length d.statements ≤ 200
 
 -- the number of an operand as the first step reads it: names come later
-abbrev early : Role → ℕ → ℕ
-early Role.Absent k = 0
-early Role.Variable k = 0
-early Role.Expression k = k
-early Role.Statement k = k
+abbrev early : Option Role → ℕ → ℕ
+early None k = 0
+early (Some Role.Variable) k = 0
+early (Some Role.Expression) k = k
+early (Some Role.Statement) k = k
 
 read_decimal : (at k : ℕ) → k < 200 → ok_or (natural_of 199 (decimal k)) (Fault.Number at) ≡ Ok k
 read_decimal at k h = ap (λ o. ok_or o (Fault.Number at)) (natural_some 199 (decimal k) k (omega arith) (omega arith) refl)
 
-first_step : (d : Said) (at : ℕ) (r : Role) (k : ℕ) → Steady d → ok_in d r k ≡ true → numeral at r (operand_word d.variables r k) ≡ Ok (early r k)
-first_step d at Role.Absent k s e = refl
-first_step d at Role.Variable k s e = refl
-first_step d at Role.Expression k s e = read_decimal at k (omega (arith, ltb-true k (length d.expressions) e, s.expressions))
-first_step d at Role.Statement k s e = read_decimal at k (omega (arith, ltb-true k (length d.statements) e, s.statements))
+first_step : (d : Said) (at : ℕ) (r : Option Role) (k : ℕ) → Steady d → ok_in d r k ≡ true → numeral at r (operand_word d.variables r k) ≡ Ok (early r k)
+first_step d at None k s e = refl
+first_step d at (Some Role.Variable) k s e = refl
+first_step d at (Some Role.Expression) k s e = read_decimal at k (omega (arith, ltb-true k (length d.expressions) e, s.expressions))
+first_step d at (Some Role.Statement) k s e = read_decimal at k (omega (arith, ltb-true k (length d.statements) e, s.statements))
 
-second_step : (d : Said) (at : ℕ) (r : Role) (k : ℕ) → Steady d → ok_in d r k ≡ true → resolved d at r (operand_word d.variables r k) (early r k) ≡ Ok k
-second_step d at Role.Absent k s e = ap Ok (sym (eqb-true k 0 e))
-second_step d at Role.Variable k s e = ap (λ o. ok_or o (Fault.Name at)) (variable_back d k s.names (ltb-true k (length d.variables) e))
-second_step d at Role.Expression k s e = refl
-second_step d at Role.Statement k s e = refl
+second_step : (d : Said) (at : ℕ) (r : Option Role) (k : ℕ) → Steady d → ok_in d r k ≡ true → resolved d at r (operand_word d.variables r k) (early r k) ≡ Ok k
+second_step d at None k s e = ap Ok (sym (eqb-true k 0 e))
+second_step d at (Some Role.Variable) k s e = ap (λ o. ok_or o (Fault.Name at)) (variable_back d k s.names (ltb-true k (length d.variables) e))
+second_step d at (Some Role.Expression) k s e = refl
+second_step d at (Some Role.Statement) k s e = refl
 
-third_step : (d : Said) (at : ℕ) (r : Role) (k : ℕ) → ok_in d r k ≡ true → there d at r k ≡ Ok k
-third_step d at Role.Absent k e = refl
-third_step d at Role.Variable k e = refl
-third_step d at Role.Expression k e = cond-true (ltb k (length d.expressions)) (Ok k) (Err (Fault.Operand at)) e
-third_step d at Role.Statement k e = cond-true (ltb k (length d.statements)) (Ok k) (Err (Fault.Operand at)) e
+third_step : (d : Said) (at : ℕ) (r : Option Role) (k : ℕ) → ok_in d r k ≡ true → there d at r k ≡ Ok k
+third_step d at None k e = refl
+third_step d at (Some Role.Variable) k e = refl
+third_step d at (Some Role.Expression) k e = cond-true (ltb k (length d.expressions)) (Ok k) (Err (Fault.Operand at)) e
+third_step d at (Some Role.Statement) k e = cond-true (ltb k (length d.statements)) (Ok k) (Err (Fault.Operand at)) e
 
-pub operands-read : (d : Said) (r s t : Role) (i j k : ℕ) → Steady d → ok_in d r i ≡ true → ok_in d s j ≡ true → ok_in d t k ≡ true
+pub operands-read : (d : Said) (r s t : Option Role) (i j k : ℕ) → Steady d → ok_in d r i ≡ true → ok_in d s j ≡ true → ok_in d t k ≡ true
     → operands d (record { first = r; second = s; third = t }) (operand_word d.variables r i) (operand_word d.variables s j) (operand_word d.variables t k) ≡ Ok (record { first = i; second = j; third = k })
 operands-read d r s t i j k ok p q u =
     then_is _ _ _ (first_step d 2 r i ok p) ∙ then_is _ _ _ (first_step d 3 s j ok q) ∙ then_is _ _ _ (first_step d 4 t k ok u)
     ∙ then_is _ _ _ (second_step d 2 r i ok p) ∙ then_is _ _ _ (second_step d 3 s j ok q) ∙ then_is _ _ _ (second_step d 4 t k ok u)
     ∙ then_is _ _ _ (third_step d 2 r i p) ∙ then_is _ _ _ (third_step d 3 s j q) ∙ then_is _ _ _ (third_step d 4 t k u)
 
-pub operand_plain : (d : Said) (r : Role) (k : ℕ) → Steady d → ok_in d r k ≡ true → Plain (operand_word d.variables r k)
-operand_plain d Role.Absent k s e = record { space = refl; end = refl; short = omega arith }
-operand_plain d Role.Variable k s e = let p = name_plain d.variables k s.names (ltb-true k (length d.variables) e) in plain_letters (name_at d.variables k) p.0 p.1
-operand_plain d Role.Expression k s e = plain_decimal k (omega (arith, ltb-true k (length d.expressions) e, s.expressions))
-operand_plain d Role.Statement k s e = plain_decimal k (omega (arith, ltb-true k (length d.statements) e, s.statements))
+pub operand_plain : (d : Said) (r : Option Role) (k : ℕ) → Steady d → ok_in d r k ≡ true → Plain (operand_word d.variables r k)
+operand_plain d None k s e = record { space = refl; end = refl; short = omega arith }
+operand_plain d (Some Role.Variable) k s e = let p = name_plain d.variables k s.names (ltb-true k (length d.variables) e) in plain_letters (name_at d.variables k) p.0 p.1
+operand_plain d (Some Role.Expression) k s e = plain_decimal k (omega (arith, ltb-true k (length d.expressions) e, s.expressions))
+operand_plain d (Some Role.Statement) k s e = plain_decimal k (omega (arith, ltb-true k (length d.statements) e, s.statements))

@@ -37,9 +37,17 @@ pub if_some : {A : Type 0} (b : Bool) (x y : A) → cond b (Some x) None ≡ Som
 if_some true x y q = (refl, same_some q)
 if_some false x y q = absurd (clash_none q)
 
+pub unless_some : {A : Type 0} (b : Bool) (o : Option A) (x : A) → cond b None o ≡ Some x → (b ≡ false) × (o ≡ Some x)
+unless_some true o x q = absurd (clash_none q)
+unless_some false o x q = (refl, q)
+
 -- what follows an answer
 pub then_is : {A B E : Type 0} (r : Result A E) (x : A) (f : A → Result B E) → r ≡ Ok x → then r f ≡ f x
 then_is r x f e = ap (λ s. then s f) e
+
+-- what follows what was made of an answer
+pub then_made : {A B C E : Type 0} (r : Result A E) (x : A) (f : A → B) (g : B → Result C E) → r ≡ Ok x → then (then r (λ y. Ok (f y))) g ≡ g (f x)
+then_made r x f g e = ap (λ s. then (then s (λ y. Ok (f y))) g) e
 
 -- an option that holds nothing, and one that holds something
 pub none_is : {A : Type 0} (o : Option A) → is_some o ≡ false → o ≡ None

@@ -24,8 +24,8 @@ use Rattle.lines.specs.declared.items.Keyword.{Keyword}
 use Rattle.lines.specs.declared.items.Role.TheVariants as Role
 use Rattle.drafts.specs.Said.{Said}
 use Rattle.lines.specs.Forms.{when, keyword_of, bare_expression, single_expression, double_expression, bare_statement, single_statement, double_statement, triple_statement, expression_roles, statement_roles, expression_with, statement_with}
-use Rattle.lines.specs.Reading.{allowed, full, numeral, there, operands, sized, expression_by, statement_by, constant, expression_of, statement_of, bound, upward, fresh, variable_of, run_of, item_of, admitted, line_of}
-use Rattle.verdict.proofs.Steps.{clash, same_ok, then_ok, or_ok, if_ok, unless_ok, none_is}
+use Rattle.lines.specs.Reading.{allowed, full, numeral, there, operands, made, sized, expression_by, statement_by, constant, expression_of, statement_of, bound, upward, fresh, variable_of, run_of, item_of, admitted, key_in, words_in, line_of}
+use Rattle.verdict.proofs.Steps.{clash, same_ok, then_ok, or_ok, if_ok, unless_ok, unless_some, none_is}
 use Rattle.verdict.proofs.Pieces.{spaced-parted, key_split}
 use Rattle.verdict.proofs.Names.{name_is, named_ok}
 use Rattle.verdict.proofs.Roles.{operand_says, says_ok, operands_say}
@@ -104,11 +104,12 @@ constant_says d op a x e q =
 expression_by_says : (d : Said) (o : Option Expression) (n : ℕ) (w a b c : List ℕ) (x : Item) → (n ≡ 4 → ⊥) → Finds expression_word expression_arity n w o → expression_by d o a b c ≡ Ok x → Expresses d (w ∷ take n (a ∷ b ∷ c ∷ [])) x
 expression_by_says d None n w a b c x m f q = absurd (clash q)
 expression_by_says d (Some e) n w a b c x m f q =
-    let p = then_ok (operands d (expression_roles e) a b c) _ x q in
+    let u = then_ok (made expression_roles expression_with d (Some e) a b c) _ x q in
+    let p = then_ok (operands d (expression_roles e) a b c) _ u.0 u.1 in
     let s = operands_say d (expression_roles e) a b c p.0 p.1 in
     let k = f e refl in
     let ws = (λ i. k.word_is i ∷ take (sym k.arity_is i) (a ∷ b ∷ c ∷ [])) ∙ expression_words_said d e a b c p.0 n k.arity_is m s in
-    sized_says d _ (expression_with e p.0) x ws (expression_with_ok d e p.0 n k.arity_is m (says_ok d _ a _ s.first) (says_ok d _ b _ s.second)) p.2
+    sized_says d _ (expression_with e p.0) x ws (expression_with_ok d e p.0 n k.arity_is m (says_ok d _ a _ s.first) (says_ok d _ b _ s.second)) (ap (sized d) (same_ok p.2) ∙ u.2)
 
 expression_says : (d : Said) (ws : List (List ℕ)) (x : Item) → expression_of d ws ≡ Ok x → Expresses d ws x
 expression_says d [] x q = absurd (clash q)
@@ -128,11 +129,12 @@ States d ws x = (s : Statement) × (x ≡ Item.Statement s) × (ws ≡ statement
 statement_by_says : (d : Said) (o : Option Statement) (n : ℕ) (w a b c : List ℕ) (x : Item) → Finds statement_word statement_arity n w o → statement_by d o a b c ≡ Ok x → States d (w ∷ take n (a ∷ b ∷ c ∷ [])) x
 statement_by_says d None n w a b c x f q = absurd (clash q)
 statement_by_says d (Some s) n w a b c x f q =
-    let p = then_ok (operands d (statement_roles s) a b c) _ x q in
+    let u = then_ok (made statement_roles statement_with d (Some s) a b c) _ x q in
+    let p = then_ok (operands d (statement_roles s) a b c) _ u.0 u.1 in
     let t = operands_say d (statement_roles s) a b c p.0 p.1 in
     let k = f s refl in (
       statement_with s p.0,
-      sym (same_ok p.2),
+      sym (ap Item.Statement (same_ok p.2) ∙ same_ok u.2),
       (λ i. k.word_is i ∷ take (sym k.arity_is i) (a ∷ b ∷ c ∷ [])) ∙ statement_words_said d s a b c p.0 t,
       statement_with_ok d s p.0 (says_ok d _ a _ t.first) (says_ok d _ b _ t.second) (says_ok d _ c _ t.third),
     )
@@ -153,9 +155,9 @@ run_says : (d : Said) (ws : List (List ℕ)) (x : Item) → length d.statements 
 run_says d [] x few q = absurd (clash q)
 run_says d (w ∷ v ∷ ws) x few q = absurd (clash q)
 run_says d (w ∷ []) x few q =
-    let p = then_ok (numeral 1 Role.Statement w) _ x q in
-    let r = then_ok (there d 1 Role.Statement p.0) _ x p.2 in
-    let s = operand_says d 1 Role.Statement w p.0 p.0 r.0 p.1 refl r.1 in
+    let p = then_ok (numeral 1 (Some Role.Statement) w) _ x q in
+    let r = then_ok (there d 1 (Some Role.Statement) p.0) _ x p.2 in
+    let s = operand_says d 1 (Some Role.Statement) w p.0 p.0 r.0 p.1 refl r.1 in
     let low : r.0 < length d.statements = ltb-true r.0 (length d.statements) s.1 in
     (r.0, sym (same_ok r.2), ap (λ y. y ∷ []) s.0, (low, omega arith))
 
@@ -166,16 +168,16 @@ key_word Keyword.Var = codes "var"
 key_word Keyword.Expr = codes "expr"
 key_word Keyword.Stmt = codes "stmt"
 key_word Keyword.Run = codes "run"
-key_word Keyword.Unknown = []
 
-abbrev Keyed : List ℕ → Keyword → Type 0
-Keyed w k = (k ≡ Keyword.Unknown) ⊎ (w ≡ key_word k)
+abbrev Keyed : List ℕ → Option Keyword → Type 0
+Keyed w None = Unit {0}
+Keyed w (Some k) = w ≡ key_word k
 
-key_step : (w : List ℕ) (k r : Keyword) → Keyed w r → Keyed w (when w (key_word k) k r)
-key_step w k r h = cond_both (bytes_eq w (key_word k)) k r (Keyed w) (λ e. inr ((bytes_eq-Decides w (key_word k)).0 e)) (λ _. h)
+key_step : (w : List ℕ) (k : Keyword) (r : Option Keyword) → Keyed w r → Keyed w (when w (key_word k) (Some k) r)
+key_step w k r h = cond_both (bytes_eq w (key_word k)) (Some k) r (Keyed w) (λ e. (bytes_eq-Decides w (key_word k)).0 e) (λ _. h)
 
 key_is : (w : List ℕ) → Keyed w (keyword_of w)
-key_is w = key_step w Keyword.Stmt _ (key_step w Keyword.Expr _ (key_step w Keyword.Var _ (key_step w Keyword.Run _ (key_step w Keyword.Sheet _ (inl refl)))))
+key_is w = key_step w Keyword.Stmt _ (key_step w Keyword.Expr _ (key_step w Keyword.Var _ (key_step w Keyword.Run _ (key_step w Keyword.Sheet _ tt))))
 
 -- ---- a line
 abbrev pub Taken : Said → List ℕ → Item → Type 0
@@ -190,28 +192,23 @@ no_run o e = none_is o (not-true (is_some o) e)
 line_words : (k v : List ℕ) (c : List ℕ) (ws : List (List ℕ)) → k ≡ c → parted 32 v ≡ ws → k ++ 61 ∷ v ≡ c ++ 61 ∷ spaced ws
 line_words k v c ws e f = λ i. e i ++ 61 ∷ (sym (spaced-parted v) ∙ ap spaced f) i
 
-keyed_taken : (d : Said) (w v : List ℕ) (k : Keyword) (x : Item) → length d.statements ≤ 200 → Keyed w k → allowed d k ≡ true → full d k ≡ false → item_of d k (parted 32 v) ≡ Ok x → Taken d (w ++ 61 ∷ v) x
-keyed_taken d w v Keyword.Unknown x few n a f q = absurd (clash q)
+keyed_taken : (d : Said) (w v : List ℕ) (k : Keyword) (x : Item) → length d.statements ≤ 200 → Keyed w (Some k) → allowed d k ≡ true → full d k ≡ false → item_of d k (parted 32 v) ≡ Ok x → Taken d (w ++ 61 ∷ v) x
 keyed_taken d w v Keyword.Sheet x few n a f q = absurd (clash q)
-keyed_taken d w v Keyword.Var x few (inl n) a f q = absurd (let z : ◌≡◌ {A = ℕ} 0 1 = cc in omega arith)
-keyed_taken d w v Keyword.Expr x few (inl n) a f q = absurd (let z : ◌≡◌ {A = ℕ} 0 1 = cc in omega arith)
-keyed_taken d w v Keyword.Stmt x few (inl n) a f q = absurd (let z : ◌≡◌ {A = ℕ} 0 1 = cc in omega arith)
-keyed_taken d w v Keyword.Run x few (inl n) a f q = absurd (let z : ◌≡◌ {A = ℕ} 0 1 = cc in omega arith)
-keyed_taken d w v Keyword.Var x few (inr n) a f q =
+keyed_taken d w v Keyword.Var x few n a f q =
     let s = variable_says d (parted 32 v) x q in
     let p = and_parts (eqb (length d.expressions) 0) _ a in
     let r = and_parts (eqb (length d.statements) 0) _ p.1 in
     subst (Taken d (w ++ 61 ∷ v)) (sym s.1) (line_words w v (codes "var") _ n s.2, ((no_lines _ p.0, no_lines _ r.0, no_run _ r.1, leb-false 16 _ f), s.3))
-keyed_taken d w v Keyword.Expr x few (inr n) a f q =
+keyed_taken d w v Keyword.Expr x few n a f q =
     let s = expression_says d (parted 32 v) x q in
     let p = and_parts (ltb 0 (length d.variables)) _ a in
     let r = and_parts (eqb (length d.statements) 0) _ p.1 in
     subst (Taken d (w ++ 61 ∷ v)) (sym s.2) (line_words w v (codes "expr") _ n s.3, ((ltb-true 0 _ p.0, no_lines _ r.0, no_run _ r.1, leb-false 200 _ f), s.4))
-keyed_taken d w v Keyword.Stmt x few (inr n) a f q =
+keyed_taken d w v Keyword.Stmt x few n a f q =
     let s = statement_says d (parted 32 v) x q in
     let p = and_parts (ltb 0 (length d.variables)) _ a in
     subst (Taken d (w ++ 61 ∷ v)) (sym s.1) (line_words w v (codes "stmt") _ n s.2, ((ltb-true 0 _ p.0, no_run _ p.1, leb-false 200 _ f), s.3))
-keyed_taken d w v Keyword.Run x few (inr n) a f q =
+keyed_taken d w v Keyword.Run x few n a f q =
     let s = run_says d (parted 32 v) x few q in
     let p = and_parts (ltb 0 (length d.variables)) _ a in
     subst (Taken d (w ++ 61 ∷ v)) (sym s.1) (line_words w v (codes "run") _ n s.2, ((ltb-true 0 _ p.0, ltb-true 0 _ p.1, none_is _ f), s.3))
@@ -219,11 +216,12 @@ keyed_taken d w v Keyword.Run x few (inr n) a f q =
 pub line_taken : (d : Said) (l : List ℕ) (x : Item) → length d.statements ≤ 200 → line_of d l ≡ Ok x → Taken d l x
 line_taken d l x few q =
     let p = unless_ok (ltb 64 (length l)) _ Fault.Long x q in
-    let r = unless_ok (eqb (length (before 61 l)) (length l)) _ Fault.Key x p.1 in
-    let a = then_ok (admitted d (keyword_of (before 61 l))) _ x r.1 in
-    let k = keyword_of (before 61 l) in
+    let r = then_ok (ok_or (key_in l) Fault.Key) _ x p.1 in
+    let k = r.0 in
+    let key = unless_some (eqb (length (before 61 l)) (length l)) (keyword_of (before 61 l)) k (or_ok (key_in l) Fault.Key k r.1) in
+    let a = then_ok (admitted d k) _ x r.2 in
     let g = if_ok (allowed d k) _ Fault.Key a.0 a.1 in
     let h = unless_ok (full d k) (Ok k) Fault.Many a.0 g.1 in
-    let e = key_split 61 l (eqb-false (length (before 61 l)) (length l) r.0) in
-    let item : item_of d k (parted 32 (after 61 l)) ≡ Ok x = ap (λ j. item_of d j (parted 32 (after 61 l))) (same_ok h.1) ∙ a.2 in
-    subst (λ y. Taken d y x) (sym e) (keyed_taken d (before 61 l) (after 61 l) k x few (key_is (before 61 l)) g.0 h.0 item)
+    let e = key_split 61 l (eqb-false (length (before 61 l)) (length l) key.0) in
+    let item : item_of d k (words_in l) ≡ Ok x = ap (λ j. item_of d j (words_in l)) (same_ok h.1) ∙ a.2 in
+    subst (λ y. Taken d y x) (sym e) (keyed_taken d (before 61 l) (after 61 l) k x few (subst (Keyed (before 61 l)) key.1 (key_is (before 61 l))) g.0 h.0 item)

@@ -1,5 +1,5 @@
 -- What is told of a refusal: its published number with its line and word, and a plain sentence. Assumes nothing.
-use Rattle.std.specs.Prelude.{ℕ, List, codes}
+use Rattle.std.specs.Prelude.{ℕ, List, ◌∷◌, ◌++◌, codes, decimal}
 use Rattle.lines.specs.declared.items.Fault.{Fault}
 use Rattle.lines.specs.declared.items.Fault.TheVariants.{Long, Key, Many, Form, Number, Name, Operand, Size}
 use Rattle.faults.specs.Fits.{number, word}
@@ -11,6 +11,10 @@ pub record Told : Type 0 where
   pub number : ℕ
   pub line : ℕ
   pub word : ℕ
+
+-- what is told as text: the number, the line and the word, with a space between two
+abbrev pub told_text : Told → List ℕ
+told_text t = decimal t.number ++ 32 ∷ decimal t.line ++ 32 ∷ decimal t.word
 
 abbrev pub told : Refusal → Told
 told Length = record { number = 1; line = 0; word = 0 }

@@ -2,7 +2,7 @@
 use lines::Fault;
 
 // A refusal. `Line` and `NoRun` hold the number of the line that is meant, counted from 1.
-#[derive(Clone, Copy)]
+#[derive(Clone, Copy, Debug, PartialEq, Eq)]
 pub enum Refusal {
     // the text is empty or too long
     Length,

@@ -1,10 +1,12 @@
 // What is told of a refusal.
-ghost use Rattle.std.specs.Prelude.{◌≡◌};
+ghost use Rattle.std.specs.Prelude.{◌≡◌, Some};
 ghost use Rattle.faults.specs.Fits.{number, word};
-ghost use Rattle.verdict.specs.Told.{told, fault_sentence, sentence};
+ghost use Rattle.verdict.specs.Told.{told, told_text, fault_sentence, sentence};
 
 use crate::refusals::Refusal;
 use lines::Fault;
+use std::error::Error;
+use std::fmt;
 
 // The number of a line's fault.
 fn fault_number(fault: Fault) -> u8
@@ -98,3 +100,17 @@ impl Refusal {
         }
     }
 }
+
+// The number, the line and the word.
+impl fmt::Display for Refusal {
+    ghost output = { λ r. Some (told_text (told r)) };
+
+    fn fmt<W: fmt::Write>(&self, f: &mut fmt::Formatter<W>) -> fmt::Result {
+        let number = self.number();
+        let line = self.line();
+        let word = self.word();
+        write!(f, "{number} {line} {word}")
+    }
+}
+
+impl Error for Refusal {}

@@ -1,4 +1,5 @@
-use Rattle.std.proofs.Common.{ℕ, List, sym, refl, ap, ◌∙◌, arith, Bor}
+use Rattle.std.proofs.Common.{ℕ, List, sym, refl, ap, ◌∙◌, subst, arith, Bor}
+use Rattle.load.specs.Naming.{LineAt}
 use Rattle.text.specs.Cut.{left, parted}
 use Rattle.text.proofs.Cuts.{left_in}
 use Rattle.load.proofs.Walk.{none_left, line_came, line_last}
@@ -9,18 +10,19 @@ loop-i-init c =
     let t = c.args.text.now in
     (refl, ap (left 10 t) c.new-reader.ensures.place ∙ left_in 10 t 0 (omega arith), c.new-reader.ensures.place)
 
-pub returns-in_default : goal.returns-in_default
-returns-in_default c =
+pub returns-in_err-line : goal.returns-in_err-line
+returns-in_err-line c =
     let e = c.loop-i.invariant.0 ∙ c.new-reader.ensures.text in
-    let none = ap (λ (r : Bor (List ℕ)). left 10 r.now c.loop-i.reader.place) (sym e) ∙ c.in_default.ensures.cases.0 in
-    none_left (parted 10 c.args.text.now) c.loop-i._i c.args.k (sym c.loop-i.invariant.1 ∙ none) (omega arith)
+    let none = ap (λ (r : Bor (List ℕ)). left 10 r.now c.loop-i.reader.place) (sym e) ∙ c.in_err-line.ensures.cases.0 in
+    let few = none_left (parted 10 c.args.text.now) c.loop-i._i c.args.k (sym c.loop-i.invariant.1 ∙ none) (omega arith) in
+    subst (LineAt c.args.text c.args.k) (sym c.from_residual.ensures) few
 
 pub loop-i-preserved : goal.loop-i-preserved
 loop-i-preserved c =
     let e = c.loop-i.invariant.0 ∙ c.new-reader.ensures.text in
-    let h = c.in-Some.ensures.cases in
-    let came = line_came c.loop-i.reader.text c.args.text c.in-Some._line c.loop-i.reader.place c.line.new.self.place c.loop-i._i e c.loop-i.invariant.1 h in
-    (c.in-Some.ensures.text ∙ c.loop-i.invariant.0, sym came.more, omega (arith, h.2, came.place, c.loop-i.invariant.2))
+    let h = c.in_ok-line.ensures.cases in
+    let came = line_came c.loop-i.reader.text c.args.text c.in_ok-line.field-0 c.loop-i.reader.place c.line.new.self.place c.loop-i._i e c.loop-i.invariant.1 h in
+    (c.in_ok-line.ensures.text ∙ c.loop-i.invariant.0, sym came.more, omega (arith, h.2, came.place, c.loop-i.invariant.2))
 
 pub returns : goal.returns
 returns c =

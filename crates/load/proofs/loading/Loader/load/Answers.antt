@@ -6,10 +6,13 @@ use Rattle.verdict.proofs.Laws.{accepts_the_sheets, tells_the_first_fault}
 use Rattle.load.proofs.loading.Loader.load.Goals as goal
 
 pub trade-requires : goal.trade-requires
-trade-requires c = (sound c.args.text.now (sheet_of (said c.read_text.new.draft) c.in-Ok.run') c.in-Ok.ensures).1
+trade-requires c = (sound c.args.text.now (sheet_of (said c.read_text.new.draft) c.in_ok-run.run') c.in_ok-run.ensures).1
 
-pub returns-in-Ok : goal.returns-in-Ok
-returns-in-Ok c = record { outcome = c.in-Ok.ensures ∙ ap Ok (sym c.trade.ensures.sheet); accepts = accepts_the_sheets; refuses = tells_the_first_fault }
+pub returns : goal.returns
+returns c = record { outcome = c.in_ok-run.ensures ∙ ap Ok (sym c.trade.ensures.sheet); accepts = accepts_the_sheets; refuses = tells_the_first_fault }
 
-pub returns-in-Err : goal.returns-in-Err
-returns-in-Err c = record { outcome = (c.in-Err.ensures, refl); accepts = accepts_the_sheets; refuses = tells_the_first_fault }
+pub returns-in_err-run-clause-accepts : goal.returns-in_err-run-clause-accepts
+returns-in_err-run-clause-accepts c = accepts_the_sheets
+
+pub returns-in_err-run-clause-refuses : goal.returns-in_err-run-clause-refuses
+returns-in_err-run-clause-refuses c = tells_the_first_fault
