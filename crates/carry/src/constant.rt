@@ -18,11 +18,7 @@ impl Feed for Constant {
 
     // The number, in the ranges.
     fn reading(&self, variable: usize, state: usize) -> Option<i64> {
-        if variable < VARIABLES && state < STATES {
-            Some(self.number)
-        } else {
-            None
-        }
+        (variable < VARIABLES && state < STATES).then_some(self.number)
     }
 
     // Outside the ranges it is none.

@@ -1,6 +1,7 @@
 // Carries readings from a feed of any kind into a recorder of any kind.
-ghost use Rattle.std.specs.Prelude.{◌≡◌, ℕ, ◌-◌, ◌≤◌, [], ◌∷◌, ◌++◌, if◌then◌else◌};
+ghost use Rattle.std.specs.Prelude.{◌≡◌, ◌-◌, [], ◌∷◌, ◌++◌, if◌then◌else◌};
 ghost use Rattle.carry.specs.Carried.{read_state};
+ghost use Rattle.record.specs.Owned.{LeavesOwner};
 ghost use Rattle.record.specs.Rules.{fitting};
 
 use feed::Feed;
@@ -13,11 +14,10 @@ pub fn copy_readings<F: Feed, R: Recorder>(feed: &F, state: usize, recorder: &mu
     ensures listed { R.states recorder.new ≡ (if result then R.states recorder.old ++ read_state (F.readings feed.now) state (R.breadth recorder.old) ∷ [] else R.states recorder.old) }
     ensures wide { R.breadth recorder.new ≡ R.breadth recorder.old }
     ensures roomy { R.spare recorder.new ≡ R.spare recorder.old - (if result then 1 else 0) }
-    ensures fixed { (w : ℕ) → R.capacity recorder.new w ≡ R.capacity recorder.old w }
-    ensures held { R.lent recorder.new ≡ R.lent recorder.old }
-    ensures untouched { (k : ℕ) → R.reach recorder.new ≤ k → R.cell recorder.new k ≡ R.cell recorder.old k }
+    ensures owner { LeavesOwner R.capacity R.lent R.reach R.cell recorder.old recorder.new }
 {
     let width = recorder.width();
+    // There is no heap, so the values stand in an array of the largest width.
     let values: [i64; MOST_WIDTH] = array::from_fn(|variable| {
         if variable < width {
             feed.reading(variable, state).unwrap_or(0)

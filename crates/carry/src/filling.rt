@@ -1,6 +1,7 @@
 // Fills a recorder of any kind.
-ghost use Rattle.std.specs.Prelude.{◌≡◌, ℕ, ◌-◌, ◌≤◌, length, if◌then◌else◌};
+ghost use Rattle.std.specs.Prelude.{◌≡◌, ◌-◌, length, if◌then◌else◌};
 ghost use Rattle.carry.specs.Carried.{filled};
+ghost use Rattle.record.specs.Owned.{LeavesOwner};
 ghost use Rattle.record.specs.Rules.{allowed_width};
 
 use record::Recorder;
@@ -12,9 +13,7 @@ pub fn fill<R: Recorder>(recorder: &mut R, numbers: &[i64], width: usize) -> usi
     ensures listed { R.states recorder.new ≡ (if allowed_width width then filled (R.capacity recorder.old width) width numbers.now else R.states recorder.old) }
     ensures wide { R.breadth recorder.new ≡ (if allowed_width width then width else R.breadth recorder.old) }
     ensures roomy { R.spare recorder.new ≡ (if allowed_width width then R.capacity recorder.old width - result else R.spare recorder.old) }
-    ensures fixed { (w : ℕ) → R.capacity recorder.new w ≡ R.capacity recorder.old w }
-    ensures held { R.lent recorder.new ≡ R.lent recorder.old }
-    ensures untouched { (k : ℕ) → R.reach recorder.new ≤ k → R.cell recorder.new k ≡ R.cell recorder.old k }
+    ensures owner { LeavesOwner R.capacity R.lent R.reach R.cell recorder.old recorder.new }
 {
     if !recorder.start(width) {
         return 0;

@@ -16,7 +16,7 @@ pub trait Feed {
 
     // The reading for a variable and a state.
     fn reading(&self, variable: usize, state: usize) -> Option<i64>
-        ensures { result ≡ readings self.now variable state };
+        ensures answer { result ≡ readings self.now variable state };
 
     // Outside the ranges there is no reading.
     ghost elsewhere: { (s : Self) → ElsewhereNone (readings s) };

@@ -38,6 +38,7 @@ impl<'a> Feed for ListFeed<'a> {
         if variable >= VARIABLES || state >= STATES {
             return None;
         }
+        // There is no `From<u32>` for `usize`, so a record's numbers widen by `as`.
         self.list
             .iter()
             .find(|r| r.state as usize == state && r.variable as usize == variable)

@@ -1,5 +1,6 @@
 // What a recorder is.
 ghost use Rattle.std.specs.Prelude.{◌≡◌, ℕ, ◌+◌, ◌-◌, ◌<◌, ◌≤◌, false, List, [], ◌∷◌, ◌++◌, length, ℤ, if◌then◌else◌};
+ghost use Rattle.record.specs.Owned.{LeavesOwner};
 ghost use Rattle.record.specs.Rules.{Allowed, Capped, allowed_width, fitting, look_at};
 
 // A recorder means a list of states, a width and a room.
@@ -33,10 +34,9 @@ pub trait Recorder {
         ensures wide { breadth self.new ≡ (if result then width else breadth self.old) }
         ensures roomy { spare self.new ≡ (if result then capacity self.old width else spare self.old) }
         ensures capped { Capped (capacity self.old) }
-        ensures fixed { (w : ℕ) → capacity self.new w ≡ capacity self.old w }
-        ensures held { lent self.new ≡ lent self.old }
         ensures reached { reach self.new ≡ (if result then 0 else reach self.old) }
-        ensures untouched { (k : ℕ) → cell self.new k ≡ cell self.old k };
+        ensures untouched { (k : ℕ) → cell self.new k ≡ cell self.old k }
+        ensures owner { LeavesOwner capacity lent reach cell self.old self.new };
 
     // Adds a state, if there is room for it, it has the width, and each value is within ±1,000,000. Any other is denied.
     fn take(&mut self, state: &[i64]) -> bool
@@ -44,12 +44,10 @@ pub trait Recorder {
         ensures listed { states self.new ≡ (if result then states self.old ++ state.now ∷ [] else states self.old) }
         ensures wide { breadth self.new ≡ breadth self.old }
         ensures roomy { spare self.new ≡ spare self.old - (if result then 1 else 0) }
-        ensures fixed { (w : ℕ) → capacity self.new w ≡ capacity self.old w }
-        ensures held { lent self.new ≡ lent self.old }
         ensures further { reach self.old ≤ reach self.new }
         ensures denied { result ≡ false → reach self.new ≡ reach self.old }
         ensures kept { (k : ℕ) → k < reach self.old → cell self.new k ≡ cell self.old k }
-        ensures untouched { (k : ℕ) → reach self.new ≤ k → cell self.new k ≡ cell self.old k };
+        ensures owner { LeavesOwner capacity lent reach cell self.old self.new };
 
     // How many states are recorded.
     fn count(&self) -> usize

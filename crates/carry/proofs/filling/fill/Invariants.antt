@@ -1,5 +1,6 @@
 -- What is recorded, with what is filled from the rest, is what is filled from all; and no place beyond the reach has changed.
-use Rattle.std.proofs.Common.{◌≡◌, ℕ, ◌+◌, ◌≤◌, ◌++◌, length}
+use Rattle.std.proofs.Common.{◌≡◌, ◌+◌, ◌++◌, length}
+use Rattle.record.specs.Owned.{LeavesOwner}
 use Rattle.carry.specs.Carried.{filled}
 use Rattle.carry.proofs.filling.fill.Given as goal
 
@@ -10,6 +11,4 @@ invariant-loop-state g l =
     × (l.state-iterator.size ≡ l.width)
     × (R.breadth l.recorder ≡ l.width)
     × (R.spare l.recorder + length (R.states l.recorder) ≡ R.spare l.initial.recorder)
-    × ((w : ℕ) → R.capacity l.recorder w ≡ R.capacity l.initial.recorder w)
-    × (R.lent l.recorder ≡ R.lent l.initial.recorder)
-    × ((k : ℕ) → R.reach l.recorder ≤ k → R.cell l.recorder k ≡ R.cell l.initial.recorder k)
+    × LeavesOwner R.capacity R.lent R.reach R.cell l.initial.recorder l.recorder
