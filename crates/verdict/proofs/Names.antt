@@ -2,9 +2,11 @@
 use Rattle.std.proofs.Common.{◌≡◌, ℕ, zero, suc, ◌-◌, ◌<◌, ◌≤◌, Bool, true, false, cond, not, ◌&&◌, ltb, leb, List, [], ◌∷◌, ◌++◌, length, get_or, take, replicate, is_some, Some, None, Option, sym, refl, ap, ◌∙◌, subst, arith}
 use Rattle.std.specs.Str.{bytes_eq}
 use Rattle.std.proofs.lemmas.Slice.Eq.{bytes_eq-Decides}
-use Rattle.std.proofs.lemmas.Bool.{and_parts, ne_eqb, leb-true, cond-true, cond-false, not-true}
+use Rattle.std.proofs.lemmas.Bool.{and_parts, ne_eqb, leb-true, ltb-true, lt-ltb, cond-true, cond-false, not-true}
 use Rattle.text.specs.Cut.{before}
-use Rattle.search.specs.Order.{place_by, later}
+use Rattle.std.specs.List.{position, position_or_len}
+use Rattle.std.proofs.lemmas.List.Sums.{passes_at_first, fails_before_first, position_or_len_is}
+use Rattle.std.proofs.lemmas.List.{length-take-le, get_or-take}
 use Rattle.sheet.specs.declared.parts.Name.{Name}
 use Rattle.sheet.specs.declared.parts.Variable.{Variable}
 use Rattle.sheet.specs.Content.{spelled, no_variable, variable_at}
@@ -60,34 +62,19 @@ named_ok w n q =
     both p q = cc
 
 -- ---- the first item that passes a test
-later_some : (o : Option ℕ) (k : ℕ) → later o ≡ Some k → (j : ℕ) × (o ≡ Some j) × (k ≡ suc j)
-later_some None k q = absurd (clash_none q)
-later_some (Some j) k q = (j, refl, sym (same_some q))
-
-place_found : {X : Type 0} (t : X → Bool) (xs : List X) (d : X) (k : ℕ) → place_by t xs ≡ Some k → (k < length xs) × (t (get_or xs k d) ≡ true)
-place_found t [] d k q = absurd (clash_none q)
-place_found t (x ∷ xs) d k q = go (t x) refl (λ j. place_found t xs d j) q
-  where
-    go : (b : Bool) → t x ≡ b → ((j : ℕ) → place_by t xs ≡ Some j → (j < length xs) × (t (get_or xs j d) ≡ true)) → cond b (Some 0) (later (place_by t xs)) ≡ Some k → (k < length (x ∷ xs)) × (t (get_or (x ∷ xs) k d) ≡ true)
-    go true e rec r = let z : 0 ≡ k = same_some r in subst (λ n. (n < length (x ∷ xs)) × (t (get_or (x ∷ xs) n d) ≡ true)) z (omega arith, e)
-    go false e rec r =
-        let j = later_some (place_by t xs) k r in
-        let f = rec j.0 j.1 in
-        subst (λ n. (n < length (x ∷ xs)) × (t (get_or (x ∷ xs) n d) ≡ true)) (sym j.2) (omega (arith, f.0), f.1)
+place_found : {X : Type 0} (t : X → Bool) (xs : List X) (d : X) (k : ℕ) → position t xs ≡ Some k → (k < length xs) × (t (get_or xs k d) ≡ true)
+place_found t xs d k q =
+    let p = if_some (ltb (position_or_len t xs) (length xs)) (position_or_len t xs) k q in
+    let h = ltb-true (position_or_len t xs) (length xs) p.0 in
+    subst (λ n. (n < length xs) × (t (get_or xs n d) ≡ true)) p.1 (h, passes_at_first t xs d h)
 
 -- where none of the items before passes
-place_at : {X : Type 0} (t : X → Bool) (xs : List X) (d : X) (k : ℕ) → k < length xs → t (get_or xs k d) ≡ true → is_some (place_by t (take k xs)) ≡ false → place_by t xs ≡ Some k
-place_at t [] d k h e n = absurd (omega arith)
-place_at t (x ∷ xs) d zero h e n = cond-true (t x) _ _ e
-place_at t (x ∷ xs) d (suc k) h e n = go (t x) refl (place_at t xs d k (omega arith) e) n
-  where
-    gone : (o : Option ℕ) → is_some (later o) ≡ false → is_some o ≡ false
-    gone None e = refl
-    gone (Some j) e = e
-
-    go : (b : Bool) → t x ≡ b → (is_some (place_by t (take k xs)) ≡ false → place_by t xs ≡ Some k) → is_some (cond b (Some 0) (later (place_by t (take k xs)))) ≡ false → cond (t x) (Some 0) (later (place_by t xs)) ≡ Some (suc k)
-    go true f rec m = absurd (let z : ◌≡◌ {A = ℕ} 0 1 = cc in omega arith)
-    go false f rec m = cond-false (t x) _ _ f ∙ ap later (rec (gone (place_by t (take k xs)) m))
+place_at : {X : Type 0} (t : X → Bool) (xs : List X) (d : X) (k : ℕ) → k < length xs → t (get_or xs k d) ≡ true → is_some (position t (take k xs)) ≡ false → position t xs ≡ Some k
+place_at t xs d k h e n =
+    let l : length (take k xs) ≡ k = length-take-le k xs (omega arith) in
+    let m : k ≤ position_or_len t (take k xs) = grind (arith, l) in
+    let p : position_or_len t xs ≡ k = position_or_len_is t xs k d (omega arith) (λ j i. sym (ap t (get_or-take k xs j d i)) ∙ fails_before_first t (take k xs) j d (omega arith)) (λ i. e) in
+    cond-true (ltb (position_or_len t xs) (length xs)) _ _ (lt-ltb _ _ (omega (arith, p))) ∙ ap Some p
 
 -- ---- the variable that a word names
 pub variable_is : (d : Said) (w : List ℕ) (k : ℕ) → number_by d (name_of w) ≡ Some k → (w ≡ name_at d.variables k) × (k < length d.variables)
