@@ -1,4 +1,5 @@
 // A text is read from its start to its end, by cutting parts off it. Nothing is copied.
+// Each call says that the text stays, in a clause of its own: a word for that one equation would be no shorter.
 ghost use Rattle.std.specs.Prelude.{◌≡◌, ◌<◌, ◌≤◌, ◌==◌, length, drop, position, MatchOption};
 ghost use Rattle.std.specs.Str.{bytes_eq};
 ghost use Rattle.text.specs.Cut.{PartAt, Handed, KeyAt};

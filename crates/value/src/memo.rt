@@ -6,6 +6,7 @@ use sheet::MOST_EXPRESSIONS;
 use std::alloc::{AllocError, Global};
 
 // A slot for each expression of the longest sheet, reserved once, so that evaluation allocates nothing.
+// Not in one list with the expressions: the sheet is only lent to an evaluation.
 #[derive(Drop)]
 pub struct Memo {
     pub(crate) slots: Vec<Slot>,
