@@ -21,8 +21,8 @@ use Rattle.drafts.specs.declared.items.Item.{Item}
 use Rattle.lines.specs.declared.items.Keyword.{Keyword}
 use Rattle.lines.specs.declared.items.Role.TheVariants as Role
 use Rattle.drafts.specs.Said.{Said}
-use Rattle.lines.specs.Forms.{keyword_of, double_expression}
-use Rattle.lines.specs.Reading.{allowed, full, sized, expression_by, expression_of, statement_of, variable_of, run_of, item_of, admitted, line_of}
+use Rattle.lines.specs.Forms.{keyword_of, double_expression, expression_roles, expression_with}
+use Rattle.lines.specs.Reading.{allowed, full, then, made, sized, expression_of, statement_of, variable_of, run_of, item_of, admitted, line_of}
 use Rattle.verdict.proofs.Steps.{then_is, then_made}
 use Rattle.verdict.proofs.Pieces.{lacks, Plain, AllPlain, plain_decimal, plain_signed, plain_letters, parted-spaced, lacks-spaced, short_spaced}
 use Rattle.verdict.proofs.Names.{proper_parts, name_back, variable_parts}
@@ -107,7 +107,7 @@ operator_named Operator.Either = refl
 
 pair_read : (d : Said) (o : Operator) (a b n : ℕ) → Steady d → ltb a (length d.expressions) ≡ true → ltb b (length d.expressions) ≡ true → n ≡ size d.variables d.sizes (Pair o a b) → n ≤ 1000000000 → expression_of d (expression_words d.variables (Pair o a b)) ≡ Ok (Item.Expression (Pair o a b) n)
 pair_read d o a b n st p q is le =
-    ap (λ f. expression_by d f (decimal a) (decimal b) []) (operator_named o)
+    ap (λ f. then (made expression_roles expression_with d f (decimal a) (decimal b) []) (sized d)) (operator_named o)
     ∙ then_made _ _ _ _ (operands-read d (Some Role.Expression) (Some Role.Expression) None a b 0 st p q refl) ∙ sized-read d (Pair o a b) n is le
 
 expression_ready : (d : Said) (e : Expression) (n : ℕ) → Steady d → expression_ok (length d.variables) (length d.expressions) e ≡ true → n ≡ size d.variables d.sizes e → n ≤ 1000000000 → Ready (expression_of d) (expression_words d.variables e) (Item.Expression e n)
