@@ -1,8 +1,7 @@
 -- What a line says behind its key, as faults tried one after another. Assumes nothing.
-use Rattle.std.proofs.Common.{◌≡◌, ℕ, Bool, true, false, cond, not, ◌||◌, ltb, leb, List, [], ◌∷◌, length, pos, is_some, Some, None, Ok, Err, codes, Option, Result, refl, ap, ◌∙◌, arith}
+use Rattle.std.proofs.Common.{◌≡◌, ℕ, Bool, true, false, cond, not, ◌||◌, ltb, leb, List, [], ◌∷◌, length, pos, is_some, Some, None, Ok, Err, Option, Result, refl, ap, ◌∙◌, arith}
 use lib.Signed.{le_z}
 use Rattle.std.specs.Option.{ok_or}
-use Rattle.std.specs.Str.{bytes_eq}
 use Rattle.std.proofs.lemmas.Bool.Decides.{nat_tests}
 use Rattle.text.specs.Decimals.{natural_of, number_of}
 use Rattle.sheet.specs.declared.parts.Expression.{Expression}

@@ -26,6 +26,7 @@ impl<'a> Operand<'a> {
             None | Some(Role::Variable) => Ok(0),
             Some(Role::Expression) | Some(Role::Statement) => {
                 let n = text::natural(self.word, MOST_OPERAND).ok_or(Fault::Number(self.at))?;
+                // A cast, since `try_from` would have an error to answer that cannot come; so below.
                 Ok(n as u16)
             }
         }

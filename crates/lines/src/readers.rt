@@ -25,6 +25,7 @@ fn with_size(draft: &Draft, e: Expression) -> Result<Item, Fault>
 {
     let size = expression_size(draft, e);
     if size <= MOST_SIZE {
+        // A cast, since the limit is below that of `u32`, and `try_from` would have one more error to answer.
         Ok(Item::Expression(e, size as u32))
     } else {
         Err(Fault::Size)
