@@ -56,7 +56,7 @@ impl Roles {
 }
 
 // What an operation is: an expression or a statement whose operands are still to be read, and are 0 until then.
-// A type without operands would only repeat the kinds of statements, and a table of functions that make them tells a proof nothing.
+// A type without operands would only repeat the kinds of statements, and a function that makes one must not be handed out.
 pub(crate) trait Operation: Copy {
     // the one that the words of a line name
     ghost named: { List (List ℕ) → Option Self };
