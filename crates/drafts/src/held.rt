@@ -7,6 +7,7 @@ use sheet::Tables;
 #[derive(Drop)]
 pub struct Draft {
     pub tables: Tables,
+    // Beside the expressions and not in their table, since the tables are traded with a sheet's, which has no sizes.
     pub sizes: Vec<u32>,
     pub run: Option<u16>,
     ghost room: { 200 ≤ vec_capacity sizes },

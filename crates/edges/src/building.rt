@@ -52,23 +52,6 @@ impl Bench {
         Ok(())
     }
 
-    // Checks the answer to a text that has a part `n` times.
-    pub(crate) fn long(
-        &mut self,
-        rt: &impl Abort,
-        heap: Global,
-        start: &str,
-        part: &str,
-        n: usize,
-        end: &str,
-        told: &str,
-    ) -> Result<(), Fail> {
-        self.add(start)?;
-        self.repeat(part, n)?;
-        self.add(end)?;
-        self.answered(rt, heap, told, part)
-    }
-
     // Checks the answer to a text that begins with `start`. The row has the answer and the rest of the text.
     fn row(&mut self, rt: &impl Abort, heap: Global, start: &str, row: &str) -> Result<(), Fail> {
         let Some((told, rest)) = row.split_once(": ") else {
@@ -103,7 +86,11 @@ pub(crate) fn check_long(
     end: &str,
     told: &str,
 ) -> Result<(), Fail> {
-    Bench::new(rt.alloc())?.long(rt, rt.alloc(), start, part, n, end, told)
+    let mut bench = Bench::new(rt.alloc())?;
+    bench.add(start)?;
+    bench.repeat(part, n)?;
+    bench.add(end)?;
+    bench.answered(rt, rt.alloc(), told, part)
 }
 
 // Checks the answers to the rows of a table, of a loader of its own.

@@ -1,8 +1,7 @@
 -- What a line says behind its key, as faults tried one after another. Assumes nothing.
-use Rattle.std.proofs.Common.{◌≡◌, ℕ, Bool, true, false, cond, not, ◌||◌, ltb, leb, List, [], ◌∷◌, length, pos, is_some, Some, None, Ok, Err, codes, Option, Result, refl, ap, ◌∙◌, arith}
+use Rattle.std.proofs.Common.{◌≡◌, ℕ, Bool, true, false, cond, not, ◌||◌, ltb, leb, List, [], ◌∷◌, length, pos, is_some, Some, None, Ok, Err, Option, Result, refl, ap, ◌∙◌, arith}
 use lib.Signed.{le_z}
 use Rattle.std.specs.Option.{ok_or}
-use Rattle.std.specs.Str.{bytes_eq}
 use Rattle.std.proofs.lemmas.Bool.Decides.{nat_tests}
 use Rattle.text.specs.Decimals.{natural_of, number_of}
 use Rattle.sheet.specs.declared.parts.Expression.{Expression}
@@ -17,9 +16,9 @@ use Rattle.lines.specs.declared.items.Keyword.{Keyword}
 use Rattle.lines.specs.declared.items.Role.{Role}
 use Rattle.lines.specs.declared.items.Roles.{Roles}
 use Rattle.drafts.specs.Said.{Said}
-use Rattle.lines.specs.Forms.{expression_roles, statement_roles, expression_with, statement_with, bare_expression, single_expression, double_expression, bare_statement, single_statement, double_statement, triple_statement}
+use Rattle.lines.specs.Forms.{expression_roles, statement_roles, expression_with, statement_with, expression_named, statement_named}
 use Rattle.lines.specs.Reading as reading
-use Rattle.lines.specs.Reading.{then, number_by, numeral, resolved, there, operands, sized, expression_by, statement_by, variable_of, expression_of, statement_of, run_of}
+use Rattle.lines.specs.Reading.{then, number_by, numeral, resolved, there, operands, sized, made, word_in, is_num, variable_of, expression_of, statement_of, run_of}
 use Rattle.faults.specs.Shapes.{Form, num, expression, statement, expression_if, statement_if, variable_form, expression_form, statement_form, run_form, Line, nothing, fresh, standing, operands_by, nth, word_at}
 use Rattle.faults.specs.Fits.{natural_in, signed_in, misnumbered, misnamed, misplaced, operand_in, operands_in, large, faulty}
 use Rattle.faults.proofs.Tries.{tried, step, steps, twice, some_step, test_step}
@@ -95,7 +94,7 @@ module _ (d : Said) (n : ℕ) (k : Option Keyword) where
       go s m = grind (arith, nat_tests)
 
   -- an operation that is known or not
-  expression_found : (ws : List (List ℕ)) (o : Option Expression) → Found d (line ws (expression_if o)) (expression_by d o (nth [] ws 2) (nth [] ws 3) (nth [] ws 4))
+  expression_found : (ws : List (List ℕ)) (o : Option Expression) → Found d (line ws (expression_if o)) (then (made expression_roles expression_with d o (word_in ws 1) (word_in ws 2) (word_in ws 3)) (sized d))
   expression_found ws None = (Item.Run 0, refl)
   expression_found ws (Some e) =
       let x = line ws (expression e) in
@@ -107,7 +106,7 @@ module _ (d : Said) (n : ℕ) (k : Option Keyword) where
             ∙ steps (faulty d x) nine (Fault.Size ∷ []) f _ (sized d) (sized-step f),
       )
 
-  statement_found : (ws : List (List ℕ)) (o : Option Statement) → Found d (line ws (statement_if o)) (statement_by d o (nth [] ws 2) (nth [] ws 3) (nth [] ws 4))
+  statement_found : (ws : List (List ℕ)) (o : Option Statement) → Found d (line ws (statement_if o)) (then (made statement_roles statement_with d o (word_in ws 1) (word_in ws 2) (word_in ws 3)) (λ s. Ok (Item.Statement s)))
   statement_found ws None = (Item.Run 0, refl)
   statement_found ws (Some s) =
       let x = line ws (statement s) in
@@ -125,23 +124,14 @@ module _ (d : Said) (n : ℕ) (k : Option Keyword) where
   either_found ws false x y r s f g = g
 
   -- `num C`
-  constant_found : (op a : List ℕ) → Found d (line (op ∷ a ∷ []) num) (reading.constant d a)
-  constant_found op a = (_, step _ _ _ (some_step (number_of 1000000 a) _ (Fault.Number 2)) (sized-step (Num (signed_in a))))
+  constant_found : (ws : List (List ℕ)) → Found d (line ws num) (reading.constant d (word_in ws 1))
+  constant_found ws = (_, step _ _ _ (some_step (number_of 1000000 (word_in ws 1)) _ (Fault.Number 2)) (sized-step (Num (signed_in (word_in ws 1)))))
 
   pub expression_line_tried : (ws : List (List ℕ)) → Found d (line ws (expression_form ws)) (expression_of d ws)
-  expression_line_tried [] = (Item.Run 0, refl)
-  expression_line_tried (op ∷ []) = expression_found (op ∷ []) (bare_expression op)
-  expression_line_tried (op ∷ a ∷ []) = either_found (op ∷ a ∷ []) (bytes_eq op (codes "num")) _ _ _ _ (constant_found op a) (expression_found (op ∷ a ∷ []) (single_expression op))
-  expression_line_tried (op ∷ a ∷ b ∷ []) = expression_found (op ∷ a ∷ b ∷ []) (double_expression op)
-  expression_line_tried (op ∷ a ∷ b ∷ c ∷ ws) = (Item.Run 0, refl)
+  expression_line_tried ws = either_found ws (is_num ws) _ _ _ _ (constant_found ws) (expression_found ws (expression_named ws))
 
   pub statement_line_tried : (ws : List (List ℕ)) → Found d (line ws (statement_form ws)) (statement_of d ws)
-  statement_line_tried [] = (Item.Run 0, refl)
-  statement_line_tried (op ∷ []) = statement_found (op ∷ []) (bare_statement op)
-  statement_line_tried (op ∷ a ∷ []) = statement_found (op ∷ a ∷ []) (single_statement op)
-  statement_line_tried (op ∷ a ∷ b ∷ []) = statement_found (op ∷ a ∷ b ∷ []) (double_statement op)
-  statement_line_tried (op ∷ a ∷ b ∷ c ∷ []) = statement_found (op ∷ a ∷ b ∷ c ∷ []) (triple_statement op)
-  statement_line_tried (op ∷ a ∷ b ∷ c ∷ e ∷ ws) = (Item.Run 0, refl)
+  statement_line_tried ws = statement_found ws (statement_named ws)
 
   -- a name that is not declared yet
   fresh_step : (w : List ℕ) → reading.fresh d w ≡ cond (misnamed d w fresh) (Err (Fault.Name 1)) (Ok (named w))

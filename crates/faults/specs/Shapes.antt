@@ -1,13 +1,12 @@
 -- What a line is made of: its key, its words, its form, and what each word stands for. Assumes nothing.
-use Rattle.std.specs.Prelude.{ℕ, cond, List, [], ◌∷◌, length, Some, None, codes, Option, slice_index_or}
-use Rattle.std.specs.Str.{bytes_eq}
+use Rattle.std.specs.Prelude.{ℕ, cond, List, [], ◌∷◌, length, Some, None, Option, slice_index_or}
 use Rattle.sheet.specs.declared.parts.Expression.{Expression}
 use Rattle.sheet.specs.declared.parts.Statement.{Statement}
 use Rattle.lines.specs.declared.items.Keyword.{Keyword}
 use Rattle.lines.specs.declared.items.Role.{Role}
 use Rattle.lines.specs.declared.items.Roles.{Roles}
-use Rattle.lines.specs.Forms.{bare_expression, single_expression, double_expression, bare_statement, single_statement, double_statement, triple_statement, expression_roles, statement_roles}
-use Rattle.lines.specs.Reading.{key_in, words_in}
+use Rattle.lines.specs.Forms.{expression_named, statement_named, expression_roles, statement_roles}
+use Rattle.lines.specs.Reading.{is_num, key_in, words_in}
 
 -- the form of a line
 pub data Form : Type 0 where
@@ -44,20 +43,11 @@ variable_form (n ∷ a ∷ b ∷ c ∷ ws) = none
 
 -- the form of an `expr` line with the words ws
 abbrev pub expression_form : List (List ℕ) → Form
-expression_form [] = none
-expression_form (op ∷ []) = expression_if (bare_expression op)
-expression_form (op ∷ a ∷ []) = cond (bytes_eq op (codes "num")) num (expression_if (single_expression op))
-expression_form (op ∷ a ∷ b ∷ []) = expression_if (double_expression op)
-expression_form (op ∷ a ∷ b ∷ c ∷ ws) = none
+expression_form ws = cond (is_num ws) num (expression_if (expression_named ws))
 
 -- the form of a `stmt` line with the words ws
 abbrev pub statement_form : List (List ℕ) → Form
-statement_form [] = none
-statement_form (op ∷ []) = statement_if (bare_statement op)
-statement_form (op ∷ a ∷ []) = statement_if (single_statement op)
-statement_form (op ∷ a ∷ b ∷ []) = statement_if (double_statement op)
-statement_form (op ∷ a ∷ b ∷ c ∷ []) = statement_if (triple_statement op)
-statement_form (op ∷ a ∷ b ∷ c ∷ e ∷ ws) = none
+statement_form ws = statement_if (statement_named ws)
 
 -- the form of a `run` line with the words ws
 abbrev pub run_form : List (List ℕ) → Form

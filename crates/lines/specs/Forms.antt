@@ -61,6 +61,23 @@ double_statement w =
 abbrev pub triple_statement : List ℕ → Option Statement
 triple_statement w = when w (codes "if") (Some (If 0 0 0)) None
 
+-- the expression that the words of a line name, by the first of them and how many follow it
+abbrev pub expression_named : List (List ℕ) → Option Expression
+expression_named [] = None
+expression_named (op ∷ []) = bare_expression op
+expression_named (op ∷ a ∷ []) = single_expression op
+expression_named (op ∷ a ∷ b ∷ []) = double_expression op
+expression_named (op ∷ a ∷ b ∷ c ∷ ws) = None
+
+-- the statement that they name
+abbrev pub statement_named : List (List ℕ) → Option Statement
+statement_named [] = None
+statement_named (op ∷ []) = bare_statement op
+statement_named (op ∷ a ∷ []) = single_statement op
+statement_named (op ∷ a ∷ b ∷ []) = double_statement op
+statement_named (op ∷ a ∷ b ∷ c ∷ []) = triple_statement op
+statement_named (op ∷ a ∷ b ∷ c ∷ e ∷ ws) = None
+
 -- the roles of the words after an operation; none where there is no such word
 abbrev pub roles : Option Role → Option Role → Option Role → Roles
 roles a b c = record { first = a; second = b; third = c }

@@ -1,5 +1,5 @@
 -- What a line says after those before it, or its fault: the faults are looked for in the order of their numbers. Assumes nothing.
-use Rattle.std.specs.Prelude.{◌≡◌, ℕ, ◌<◌, Bool, true, cond, not, ◌&&◌, List, [], ◌∷◌, length, ℤ, is_some, Some, None, Ok, Err, codes, Option, Result, ◌==◌, int_le, nat_le, nat_lt}
+use Rattle.std.specs.Prelude.{◌≡◌, ℕ, ◌<◌, Bool, true, false, cond, not, ◌&&◌, List, [], ◌∷◌, length, ℤ, is_some, Some, None, Ok, Err, codes, Option, Result, ◌==◌, int_le, nat_le, nat_lt, slice_index_or}
 use Rattle.std.specs.Option.{ok_or}
 use Rattle.std.specs.Str.{bytes_eq}
 use Rattle.text.specs.Cut.{before, after, parted}
@@ -19,7 +19,7 @@ use Rattle.lines.specs.declared.items.Operands.{Operands}
 use Rattle.lines.specs.declared.items.Words.{Words}
 use Rattle.lines.specs.declared.items.Words.TheVariants.{One, Two, Three, Four}
 use Rattle.drafts.specs.Said.{Said}
-use Rattle.lines.specs.Forms.{keyword_of, bare_expression, single_expression, double_expression, bare_statement, single_statement, double_statement, triple_statement, expression_roles, statement_roles, expression_with, statement_with}
+use Rattle.lines.specs.Forms.{keyword_of, expression_named, statement_named, expression_roles, statement_roles, expression_with, statement_with}
 
 -- one step after another, up to the first fault
 abbrev pub then : {A B E : Type 0} → Result A E → (A → Result B E) → Result B E
@@ -97,32 +97,32 @@ abbrev pub made : {X : Type 0} → (X → Roles) → (X → Operands → X) → 
 made roles with d None a b c = Err Fault.Form
 made roles with d (Some x) a b c = then (operands d (roles x) a b c) (λ o. Ok (with x o))
 
-abbrev pub expression_by : Said → Option Expression → List ℕ → List ℕ → List ℕ → Result Item Fault
-expression_by d o a b c = then (made expression_roles expression_with d o a b c) (sized d)
-
-abbrev pub statement_by : Said → Option Statement → List ℕ → List ℕ → List ℕ → Result Item Fault
-statement_by d o a b c = then (made statement_roles statement_with d o a b c) (λ s. Ok (Item.Statement s))
-
 -- `num C`
 abbrev pub constant : Said → List ℕ → Result Item Fault
 constant d w = then (ok_or (number_of 1000000 w) (Fault.Number 2)) (λ z. sized d (Num z))
 
+-- word k of the words of a line, counted from 0; no bytes where there is none
+abbrev pub word_in : List (List ℕ) → ℕ → List ℕ
+word_in ws k = slice_index_or ws k []
+
+-- the operation that the words ws name, by `named`, with the operands that they tell
+abbrev pub operation_of : {X : Type 0} → (List (List ℕ) → Option X) → (X → Roles) → (X → Operands → X) → Said → List (List ℕ) → Result X Fault
+operation_of named roles with d ws = made roles with d (named ws) (word_in ws 1) (word_in ws 2) (word_in ws 3)
+
+-- the words ws are `num C`
+abbrev pub is_num : List (List ℕ) → Bool
+is_num [] = false
+is_num (op ∷ []) = false
+is_num (op ∷ a ∷ []) = bytes_eq op (codes "num")
+is_num (op ∷ a ∷ b ∷ ws) = false
+
 -- an `expr` line with the words ws
 abbrev pub expression_of : Said → List (List ℕ) → Result Item Fault
-expression_of d [] = Err Fault.Form
-expression_of d (op ∷ []) = expression_by d (bare_expression op) [] [] []
-expression_of d (op ∷ a ∷ []) = cond (bytes_eq op (codes "num")) (constant d a) (expression_by d (single_expression op) a [] [])
-expression_of d (op ∷ a ∷ b ∷ []) = expression_by d (double_expression op) a b []
-expression_of d (op ∷ a ∷ b ∷ c ∷ ws) = Err Fault.Form
+expression_of d ws = cond (is_num ws) (constant d (word_in ws 1)) (then (operation_of expression_named expression_roles expression_with d ws) (sized d))
 
 -- a `stmt` line with the words ws
 abbrev pub statement_of : Said → List (List ℕ) → Result Item Fault
-statement_of d [] = Err Fault.Form
-statement_of d (op ∷ []) = statement_by d (bare_statement op) [] [] []
-statement_of d (op ∷ a ∷ []) = statement_by d (single_statement op) a [] []
-statement_of d (op ∷ a ∷ b ∷ []) = statement_by d (double_statement op) a b []
-statement_of d (op ∷ a ∷ b ∷ c ∷ []) = statement_by d (triple_statement op) a b c
-statement_of d (op ∷ a ∷ b ∷ c ∷ e ∷ ws) = Err Fault.Form
+statement_of d ws = then (operation_of statement_named statement_roles statement_with d ws) (λ s. Ok (Item.Statement s))
 
 -- a bound of a range, in the word at `at`
 abbrev pub bound : ℕ → List ℕ → Result ℤ Fault

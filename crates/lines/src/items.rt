@@ -47,7 +47,7 @@ pub struct Roles {
     pub third: Option<Role>,
 }
 
-// The numbers of the operands; 0 for one that is absent.
+// The numbers of the operands. One that is absent is 0, and no option, since an operation takes those that it has, and would have to ask again.
 #[derive(Clone, Copy)]
 pub struct Operands {
     pub first: u16,

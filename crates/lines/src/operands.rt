@@ -1,9 +1,9 @@
 // The operands of a line, with their faults in the order of their numbers.
-ghost use Rattle.std.specs.Prelude.{◌≡◌};
+ghost use Rattle.std.specs.Prelude.{◌≡◌, ℕ, List};
 ghost use Rattle.drafts.specs.Said.{said};
-ghost use Rattle.lines.specs.Reading.{numeral, resolved, there, operands};
+ghost use Rattle.lines.specs.Reading.{Spells, word_in, numeral, resolved, there, operands};
 
-use crate::items::{Fault, Operands, Role, Roles};
+use crate::items::{Fault, Operands, Role, Roles, Words};
 use drafts::Draft;
 
 // The largest number of an operand.
@@ -26,6 +26,7 @@ impl<'a> Operand<'a> {
             None | Some(Role::Variable) => Ok(0),
             Some(Role::Expression) | Some(Role::Statement) => {
                 let n = text::natural(self.word, MOST_OPERAND).ok_or(Fault::Number(self.at))?;
+                // A cast, since `try_from` would have an error to answer that cannot come; so below.
                 Ok(n as u16)
             }
         }
@@ -64,15 +65,10 @@ impl<'a> Operand<'a> {
 }
 
 // The operands in the second, third and fourth word of a line.
-pub(crate) fn read_operands(
-    draft: &Draft,
-    roles: Roles,
-    a: &[u8],
-    b: &[u8],
-    c: &[u8],
-) -> Result<Operands, Fault>
-    ensures { result ≡ operands (said draft.now) roles a.now b.now c.now }
+pub(crate) fn read_operands(draft: &Draft, roles: Roles, words: Words) -> Result<Operands, Fault>
+    ensures { (ws : List (List ℕ)) → Spells words.entry ws → result ≡ operands (said draft.now) roles (word_in ws 1) (word_in ws 2) (word_in ws 3) }
 {
+    let (a, b, c) = words.rest();
     let a = Operand {
         at: 2,
         role: roles.first,

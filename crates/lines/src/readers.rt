@@ -1,7 +1,7 @@
 // What a line says, or its fault.
-ghost use Rattle.std.specs.Prelude.{◌≡◌, ℕ, List, []};
+ghost use Rattle.std.specs.Prelude.{◌≡◌, ℕ, List};
 ghost use Rattle.drafts.specs.Said.{said};
-ghost use Rattle.lines.specs.Reading.{Spells, allowed, full, sized, made, expression_by, statement_by, constant, expression_of, statement_of, bound, upward, fresh, variable_of, run_of, admitted, item_of, line_of};
+ghost use Rattle.lines.specs.Reading.{Spells, allowed, full, sized, operation_of, constant, expression_of, statement_of, bound, upward, fresh, variable_of, run_of, admitted, item_of, line_of};
 
 use crate::forms;
 use crate::items::{Fault, Keyword, Role, Words};
@@ -10,7 +10,7 @@ use crate::shapes::Operation;
 use crate::sizes::expression_size;
 use crate::words::cut_words;
 use drafts::{Draft, Item};
-use sheet::{Expression, Name, Statement, Variable};
+use sheet::{Expression, Name, Variable};
 use text::{Reader, same};
 
 // The longest line, in bytes.
@@ -25,50 +25,20 @@ fn with_size(draft: &Draft, e: Expression) -> Result<Item, Fault>
 {
     let size = expression_size(draft, e);
     if size <= MOST_SIZE {
+        // A cast, since the limit is below that of `u32`, and `try_from` would have one more error to answer.
         Ok(Item::Expression(e, size as u32))
     } else {
         Err(Fault::Size)
     }
 }
 
-// What an operation is with the operands that are read from their words.
-fn make<O: Operation>(
-    draft: &Draft,
-    operation: Option<O>,
-    a: &[u8],
-    b: &[u8],
-    c: &[u8],
-) -> Result<O, Fault>
-    ensures { result ≡ made O.roles O.with (said draft.now) operation a.now b.now c.now }
+// The operation that the words of a line name, with the operands that they tell.
+fn read_operation<O: Operation>(draft: &Draft, words: Words) -> Result<O, Fault>
+    ensures { (ws : List (List ℕ)) → Spells words.entry ws → result ≡ operation_of O.named O.roles O.with (said draft.now) ws }
 {
-    let operation = operation.ok_or(Fault::Form)?;
-    let operands = read_operands(draft, operation.roles(), a, b, c)?;
+    let operation = O::named(words).ok_or(Fault::Form)?;
+    let operands = read_operands(draft, operation.roles(), words)?;
     Ok(operation.with(operands))
-}
-
-// The expression that an operation makes of its operands' words.
-fn make_expression(
-    draft: &Draft,
-    form: Option<Expression>,
-    a: &[u8],
-    b: &[u8],
-) -> Result<Item, Fault>
-    ensures { result ≡ expression_by (said draft.now) form a.now b.now [] }
-{
-    with_size(draft, make(draft, form, a, b, b"")?)
-}
-
-// The statement that an operation makes of its operands' words.
-fn make_statement(
-    draft: &Draft,
-    form: Option<Statement>,
-    a: &[u8],
-    b: &[u8],
-    c: &[u8],
-) -> Result<Item, Fault>
-    ensures { result ≡ statement_by (said draft.now) form a.now b.now c.now }
-{
-    Ok(Item::Statement(make(draft, form, a, b, c)?))
 }
 
 // The constant of `num C`.
@@ -84,16 +54,8 @@ fn read_expression(draft: &Draft, words: Words) -> Result<Item, Fault>
     ensures { (ws : List (List ℕ)) → Spells words.entry ws → result ≡ expression_of (said draft.now) ws }
 {
     match words {
-        Words::One(op) => make_expression(draft, forms::bare_expression(op), b"", b""),
-        Words::Two(op, a) => {
-            if same(op, b"num") {
-                read_constant(draft, a)
-            } else {
-                make_expression(draft, forms::single_expression(op), a, b"")
-            }
-        }
-        Words::Three(op, a, b) => make_expression(draft, forms::double_expression(op), a, b),
-        Words::Four(_, _, _, _) => Err(Fault::Form),
+        Words::Two(op, a) if same(op, b"num") => read_constant(draft, a),
+        _ => with_size(draft, read_operation(draft, words)?),
     }
 }
 
@@ -101,12 +63,7 @@ fn read_expression(draft: &Draft, words: Words) -> Result<Item, Fault>
 fn read_statement(draft: &Draft, words: Words) -> Result<Item, Fault>
     ensures { (ws : List (List ℕ)) → Spells words.entry ws → result ≡ statement_of (said draft.now) ws }
 {
-    match words {
-        Words::One(op) => make_statement(draft, forms::bare_statement(op), b"", b"", b""),
-        Words::Two(op, a) => make_statement(draft, forms::single_statement(op), a, b"", b""),
-        Words::Three(op, a, b) => make_statement(draft, forms::double_statement(op), a, b, b""),
-        Words::Four(op, a, b, c) => make_statement(draft, forms::triple_statement(op), a, b, c),
-    }
+    Ok(Item::Statement(read_operation(draft, words)?))
 }
 
 // A bound of a range.

@@ -1,11 +1,13 @@
-// What the operands of expressions and statements stand for, and what is made of them.
-ghost use Rattle.std.specs.Prelude.{◌≡◌, None, Some};
+// Operations: the words that name them, what their operands stand for, and what is made of them.
+ghost use Rattle.std.specs.Prelude.{◌≡◌, ℕ, List, None, Some, Option};
 ghost use Rattle.lines.specs.declared.items.Roles.{Roles};
 ghost use Rattle.lines.specs.declared.items.Operands.{Operands};
-ghost use Rattle.lines.specs.Forms.{roles as given, expression_roles, statement_roles, expression_with, statement_with};
+ghost use Rattle.lines.specs.Reading.{Spells};
+ghost use Rattle.lines.specs.Forms.{roles as given, expression_named, statement_named, expression_roles, statement_roles, expression_with, statement_with};
 
-use crate::items::{Operands, Role, Roles};
-use sheet::{Expression, Statement};
+use crate::forms::look_up;
+use crate::items::{Operands, Role, Roles, Words};
+use sheet::{Expression, Operator, Statement};
 
 impl Roles {
     // No operand.
@@ -54,11 +56,17 @@ impl Roles {
 }
 
 // What an operation is: an expression or a statement whose operands are still to be read, and are 0 until then.
+// A type without operands would only repeat the kinds of statements, and a function that makes one must not be handed out.
 pub(crate) trait Operation: Copy {
+    // the one that the words of a line name
+    ghost named: { List (List ℕ) → Option Self };
     // what its operands stand for
     ghost roles: { Self → Roles };
     // what it is with these operands
     ghost with: { Self → Operands → Self };
+
+    fn named(words: Words) -> Option<Self>
+        ensures { (ws : List (List ℕ)) → Spells words.entry ws → result ≡ named ws };
 
     fn roles(self) -> Roles
         ensures { result ≡ roles self };
@@ -68,9 +76,34 @@ pub(crate) trait Operation: Copy {
 }
 
 impl Operation for Expression {
+    ghost named = { expression_named };
+
     ghost roles = { expression_roles };
 
     ghost with = { expression_with };
+
+    fn named(words: Words) -> Option<Expression> {
+        match words {
+            Words::One(op) => look_up(&[(b"last", Expression::Last)], op),
+            Words::Two(op, _) => look_up(
+                &[(b"val", Expression::Val(0)), (b"not", Expression::Not(0))],
+                op,
+            ),
+            Words::Three(op, _, _) => look_up(
+                &[
+                    (b"add", Expression::Pair(Operator::Add, 0, 0)),
+                    (b"sub", Expression::Pair(Operator::Sub, 0, 0)),
+                    (b"mul", Expression::Pair(Operator::Mul, 0, 0)),
+                    (b"eq", Expression::Pair(Operator::Eq, 0, 0)),
+                    (b"lt", Expression::Pair(Operator::Lt, 0, 0)),
+                    (b"both", Expression::Pair(Operator::Both, 0, 0)),
+                    (b"either", Expression::Pair(Operator::Either, 0, 0)),
+                ],
+                op,
+            ),
+            Words::Four(_, _, _, _) => None,
+        }
+    }
 
     fn roles(self) -> Roles {
         match self {
@@ -92,9 +125,47 @@ impl Operation for Expression {
 }
 
 impl Operation for Statement {
+    ghost named = { statement_named };
+
     ghost roles = { statement_roles };
 
     ghost with = { statement_with };
+
+    fn named(words: Words) -> Option<Statement> {
+        match words {
+            Words::One(op) => look_up(
+                &[
+                    (b"true", Statement::True),
+                    (b"false", Statement::False),
+                    (b"empty", Statement::Empty),
+                    (b"more", Statement::More),
+                ],
+                op,
+            ),
+            Words::Two(op, _) => look_up(
+                &[
+                    (b"next", Statement::Next(0)),
+                    (b"always", Statement::Always(0)),
+                    (b"halt", Statement::Halt(0)),
+                    (b"len", Statement::Len(0)),
+                    (b"request", Statement::Request(0)),
+                ],
+                op,
+            ),
+            Words::Three(op, _, _) => look_up(
+                &[
+                    (b"is", Statement::Is(0, 0)),
+                    (b"and", Statement::And(0, 0)),
+                    (b"gets", Statement::Gets(0, 0)),
+                    (b"chop", Statement::Chop(0, 0)),
+                    (b"for", Statement::For(0, 0)),
+                    (b"while", Statement::While(0, 0)),
+                ],
+                op,
+            ),
+            Words::Four(op, _, _, _) => look_up(&[(b"if", Statement::If(0, 0, 0))], op),
+        }
+    }
 
     fn roles(self) -> Roles {
         match self {

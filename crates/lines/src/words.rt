@@ -1,10 +1,24 @@
 // The words of a line.
-ghost use Rattle.std.specs.Prelude.{◌≤◌, length};
+ghost use Rattle.std.specs.Prelude.{◌≡◌, ◌≤◌, ℕ, List, length};
 ghost use Rattle.text.specs.Cut.{left};
-ghost use Rattle.lines.specs.Reading.{Cut};
+ghost use Rattle.lines.specs.Reading.{Spells, Cut, word_in};
 
 use crate::items::Words;
 use text::Reader;
+
+impl<'a> Words<'a> {
+    // The words after the first; no bytes where there is none.
+    pub(crate) fn rest(self) -> (&'a [u8], &'a [u8], &'a [u8])
+        ensures { (ws : List (List ℕ)) → Spells self.entry ws → (result.0.now ≡ word_in ws 1) × (result.1.now ≡ word_in ws 2) × (result.2.now ≡ word_in ws 3) }
+    {
+        match self {
+            Words::One(_) => (b"", b"", b""),
+            Words::Two(_, a) => (a, b"", b""),
+            Words::Three(_, a, b) => (a, b, b""),
+            Words::Four(_, a, b, c) => (a, b, c),
+        }
+    }
+}
 
 // The words that a reader has not handed out yet, or none where they are more than four.
 pub(crate) fn cut_words<'a>(reader: &mut Reader<'a>) -> Option<Words<'a>>

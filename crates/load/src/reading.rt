@@ -19,6 +19,7 @@ fn read_lines(draft: &mut Draft, reader: &mut Reader) -> Result<u16, Refusal>
     requires empty { said draft.old ≡ nothing }
     ensures { Drafted result draft.new (lines_of 2 nothing (left 10 reader.old.text.now reader.old.place)) }
 {
+    // Counted by hand, since lines are handed out one by one, and the count is needed after the last.
     let mut n = 2u32;
     while let Some(line) = reader.line() {
         let item = lines::read_line(draft, line).map_err(|fault| Refusal::Line(n, fault))?;

@@ -21,8 +21,8 @@ use Rattle.drafts.specs.declared.items.Item.{Item}
 use Rattle.lines.specs.declared.items.Keyword.{Keyword}
 use Rattle.lines.specs.declared.items.Role.TheVariants as Role
 use Rattle.drafts.specs.Said.{Said}
-use Rattle.lines.specs.Forms.{keyword_of, double_expression}
-use Rattle.lines.specs.Reading.{allowed, full, sized, expression_by, expression_of, statement_of, variable_of, run_of, item_of, admitted, line_of}
+use Rattle.lines.specs.Forms.{keyword_of, double_expression, expression_roles, expression_with}
+use Rattle.lines.specs.Reading.{allowed, full, then, made, sized, expression_of, statement_of, variable_of, run_of, item_of, admitted, line_of}
 use Rattle.verdict.proofs.Steps.{then_is, then_made}
 use Rattle.verdict.proofs.Pieces.{lacks, Plain, AllPlain, plain_decimal, plain_signed, plain_letters, parted-spaced, lacks-spaced, short_spaced}
 use Rattle.verdict.proofs.Names.{proper_parts, name_back, variable_parts}
@@ -39,48 +39,61 @@ record Ready (reads : List (List ℕ) → Result Item Fault) (ws : List (List �
   few : length ws ≤ 4
   read : reads ws ≡ Ok x
 
+module _ {reads : List (List ℕ) → Result Item Fault} {x : Item} where
+  bare : {w : List ℕ} → Plain w → reads (w ∷ []) ≡ Ok x → Ready reads (w ∷ []) x
+  bare p r = record { plain = (p, tt); some = omega arith; few = omega arith; read = r }
+
+  with_one : {w a : List ℕ} → Plain w → Plain a → reads (w ∷ a ∷ []) ≡ Ok x → Ready reads (w ∷ a ∷ []) x
+  with_one p q r = record { plain = (p, (q, tt)); some = omega arith; few = omega arith; read = r }
+
+  with_two : {w a b : List ℕ} → Plain w → Plain a → Plain b → reads (w ∷ a ∷ b ∷ []) ≡ Ok x → Ready reads (w ∷ a ∷ b ∷ []) x
+  with_two p q s r = record { plain = (p, (q, (s, tt))); some = omega arith; few = omega arith; read = r }
+
+  with_three : {w a b c : List ℕ} → Plain w → Plain a → Plain b → Plain c → reads (w ∷ a ∷ b ∷ c ∷ []) ≡ Ok x → Ready reads (w ∷ a ∷ b ∷ c ∷ []) x
+  with_three p q s t r = record { plain = (p, (q, (s, (t, tt)))); some = omega arith; few = omega arith; read = r }
+
 -- ---- statements
 statement_ready : (d : Said) (s : Statement) → Steady d → statement_ok (length d.variables) (length d.expressions) (length d.statements) s ≡ true → Ready (statement_of d) (statement_words d.variables s) (Item.Statement s)
 statement_ready d True st ok =
-    record { plain = (literal (codes "true") refl refl (omega arith), tt); some = omega arith; few = omega arith; read = refl }
+    bare (literal (codes "true") refl refl (omega arith)) refl
 statement_ready d False st ok =
-    record { plain = (literal (codes "false") refl refl (omega arith), tt); some = omega arith; few = omega arith; read = refl }
+    bare (literal (codes "false") refl refl (omega arith)) refl
 statement_ready d Empty st ok =
-    record { plain = (literal (codes "empty") refl refl (omega arith), tt); some = omega arith; few = omega arith; read = refl }
+    bare (literal (codes "empty") refl refl (omega arith)) refl
 statement_ready d More st ok =
-    record { plain = (literal (codes "more") refl refl (omega arith), tt); some = omega arith; few = omega arith; read = refl }
+    bare (literal (codes "more") refl refl (omega arith)) refl
 statement_ready d (Is x e) st ok =
     let p = and_parts (ltb x (length d.variables)) (ltb e (length d.expressions)) ok in
-    record { plain = (literal (codes "is") refl refl (omega arith), (operand_plain d (Some Role.Variable) x st p.0, (operand_plain d (Some Role.Expression) e st p.1, tt))); some = omega arith; few = omega arith; read = then_made _ _ _ _ (operands-read d (Some Role.Variable) (Some Role.Expression) None x e 0 st p.0 p.1 refl) }
+    with_two (literal (codes "is") refl refl (omega arith)) (operand_plain d (Some Role.Variable) x st p.0) (operand_plain d (Some Role.Expression) e st p.1) (then_made _ _ _ _ (operands-read d (Some Role.Variable) (Some Role.Expression) None x e 0 st p.0 p.1 refl))
 statement_ready d (And x y) st ok =
     let p = and_parts (ltb x (length d.statements)) (ltb y (length d.statements)) ok in
-    record { plain = (literal (codes "and") refl refl (omega arith), (operand_plain d (Some Role.Statement) x st p.0, (operand_plain d (Some Role.Statement) y st p.1, tt))); some = omega arith; few = omega arith; read = then_made _ _ _ _ (operands-read d (Some Role.Statement) (Some Role.Statement) None x y 0 st p.0 p.1 refl) }
+    with_two (literal (codes "and") refl refl (omega arith)) (operand_plain d (Some Role.Statement) x st p.0) (operand_plain d (Some Role.Statement) y st p.1) (then_made _ _ _ _ (operands-read d (Some Role.Statement) (Some Role.Statement) None x y 0 st p.0 p.1 refl))
 statement_ready d (If e x y) st ok =
     let p = and_parts (ltb e (length d.expressions)) _ ok in
     let q = and_parts (ltb x (length d.statements)) (ltb y (length d.statements)) p.1 in
-    record { plain = (literal (codes "if") refl refl (omega arith), (operand_plain d (Some Role.Expression) e st p.0, (operand_plain d (Some Role.Statement) x st q.0, (operand_plain d (Some Role.Statement) y st q.1, tt)))); some = omega arith; few = omega arith; read = then_made _ _ _ _ (operands-read d (Some Role.Expression) (Some Role.Statement) (Some Role.Statement) e x y st p.0 q.0 q.1) }
+    with_three (literal (codes "if") refl refl (omega arith)) (operand_plain d (Some Role.Expression) e st p.0) (operand_plain d (Some Role.Statement) x st q.0) (operand_plain d (Some Role.Statement) y st q.1) (then_made _ _ _ _ (operands-read d (Some Role.Expression) (Some Role.Statement) (Some Role.Statement) e x y st p.0 q.0 q.1))
 statement_ready d (Next x) st ok =
-    record { plain = (literal (codes "next") refl refl (omega arith), (operand_plain d (Some Role.Statement) x st ok, tt)); some = omega arith; few = omega arith; read = then_made _ _ _ _ (operands-read d (Some Role.Statement) None None x 0 0 st ok refl refl) }
+    with_one (literal (codes "next") refl refl (omega arith)) (operand_plain d (Some Role.Statement) x st ok) (then_made _ _ _ _ (operands-read d (Some Role.Statement) None None x 0 0 st ok refl refl))
 statement_ready d (Always x) st ok =
-    record { plain = (literal (codes "always") refl refl (omega arith), (operand_plain d (Some Role.Statement) x st ok, tt)); some = omega arith; few = omega arith; read = then_made _ _ _ _ (operands-read d (Some Role.Statement) None None x 0 0 st ok refl refl) }
+    with_one (literal (codes "always") refl refl (omega arith)) (operand_plain d (Some Role.Statement) x st ok) (then_made _ _ _ _ (operands-read d (Some Role.Statement) None None x 0 0 st ok refl refl))
 statement_ready d (Halt e) st ok =
-    record { plain = (literal (codes "halt") refl refl (omega arith), (operand_plain d (Some Role.Expression) e st ok, tt)); some = omega arith; few = omega arith; read = then_made _ _ _ _ (operands-read d (Some Role.Expression) None None e 0 0 st ok refl refl) }
+    with_one (literal (codes "halt") refl refl (omega arith)) (operand_plain d (Some Role.Expression) e st ok) (then_made _ _ _ _ (operands-read d (Some Role.Expression) None None e 0 0 st ok refl refl))
 statement_ready d (Len e) st ok =
-    record { plain = (literal (codes "len") refl refl (omega arith), (operand_plain d (Some Role.Expression) e st ok, tt)); some = omega arith; few = omega arith; read = then_made _ _ _ _ (operands-read d (Some Role.Expression) None None e 0 0 st ok refl refl) }
+    with_one (literal (codes "len") refl refl (omega arith)) (operand_plain d (Some Role.Expression) e st ok) (then_made _ _ _ _ (operands-read d (Some Role.Expression) None None e 0 0 st ok refl refl))
 statement_ready d (Gets x e) st ok =
     let p = and_parts (ltb x (length d.variables)) (ltb e (length d.expressions)) ok in
-    record { plain = (literal (codes "gets") refl refl (omega arith), (operand_plain d (Some Role.Variable) x st p.0, (operand_plain d (Some Role.Expression) e st p.1, tt))); some = omega arith; few = omega arith; read = then_made _ _ _ _ (operands-read d (Some Role.Variable) (Some Role.Expression) None x e 0 st p.0 p.1 refl) }
+    with_two (literal (codes "gets") refl refl (omega arith)) (operand_plain d (Some Role.Variable) x st p.0) (operand_plain d (Some Role.Expression) e st p.1) (then_made _ _ _ _ (operands-read d (Some Role.Variable) (Some Role.Expression) None x e 0 st p.0 p.1 refl))
 statement_ready d (Chop x y) st ok =
     let p = and_parts (ltb x (length d.statements)) (ltb y (length d.statements)) ok in
-    record { plain = (literal (codes "chop") refl refl (omega arith), (operand_plain d (Some Role.Statement) x st p.0, (operand_plain d (Some Role.Statement) y st p.1, tt))); some = omega arith; few = omega arith; read = then_made _ _ _ _ (operands-read d (Some Role.Statement) (Some Role.Statement) None x y 0 st p.0 p.1 refl) }
+    with_two (literal (codes "chop") refl refl (omega arith)) (operand_plain d (Some Role.Statement) x st p.0) (operand_plain d (Some Role.Statement) y st p.1) (then_made _ _ _ _ (operands-read d (Some Role.Statement) (Some Role.Statement) None x y 0 st p.0 p.1 refl))
 statement_ready d (For e x) st ok =
     let p = and_parts (ltb e (length d.expressions)) (ltb x (length d.statements)) ok in
-    record { plain = (literal (codes "for") refl refl (omega arith), (operand_plain d (Some Role.Expression) e st p.0, (operand_plain d (Some Role.Statement) x st p.1, tt))); some = omega arith; few = omega arith; read = then_made _ _ _ _ (operands-read d (Some Role.Expression) (Some Role.Statement) None e x 0 st p.0 p.1 refl) }
+    with_two (literal (codes "for") refl refl (omega arith)) (operand_plain d (Some Role.Expression) e st p.0) (operand_plain d (Some Role.Statement) x st p.1) (then_made _ _ _ _ (operands-read d (Some Role.Expression) (Some Role.Statement) None e x 0 st p.0 p.1 refl))
 statement_ready d (While e x) st ok =
     let p = and_parts (ltb e (length d.expressions)) (ltb x (length d.statements)) ok in
-    record { plain = (literal (codes "while") refl refl (omega arith), (operand_plain d (Some Role.Expression) e st p.0, (operand_plain d (Some Role.Statement) x st p.1, tt))); some = omega arith; few = omega arith; read = then_made _ _ _ _ (operands-read d (Some Role.Expression) (Some Role.Statement) None e x 0 st p.0 p.1 refl) }
+    with_two (literal (codes "while") refl refl (omega arith)) (operand_plain d (Some Role.Expression) e st p.0) (operand_plain d (Some Role.Statement) x st p.1) (then_made _ _ _ _ (operands-read d (Some Role.Expression) (Some Role.Statement) None e x 0 st p.0 p.1 refl))
 statement_ready d (Request x) st ok =
-    record { plain = (literal (codes "request") refl refl (omega arith), (operand_plain d (Some Role.Variable) x st ok, tt)); some = omega arith; few = omega arith; read = then_made _ _ _ _ (operands-read d (Some Role.Variable) None None x 0 0 st ok refl refl) }
+    with_one (literal (codes "request") refl refl (omega arith)) (operand_plain d (Some Role.Variable) x st ok) (then_made _ _ _ _ (operands-read d (Some Role.Variable) None None x 0 0 st ok refl refl))
 
 -- ---- expressions
 sized-read : (d : Said) (e : Expression) (n : ℕ) → n ≡ size d.variables d.sizes e → n ≤ 1000000000 → sized d e ≡ Ok (Item.Expression e n)
@@ -107,7 +120,7 @@ operator_named Operator.Either = refl
 
 pair_read : (d : Said) (o : Operator) (a b n : ℕ) → Steady d → ltb a (length d.expressions) ≡ true → ltb b (length d.expressions) ≡ true → n ≡ size d.variables d.sizes (Pair o a b) → n ≤ 1000000000 → expression_of d (expression_words d.variables (Pair o a b)) ≡ Ok (Item.Expression (Pair o a b) n)
 pair_read d o a b n st p q is le =
-    ap (λ f. expression_by d f (decimal a) (decimal b) []) (operator_named o)
+    ap (λ f. then (made expression_roles expression_with d f (decimal a) (decimal b) []) (sized d)) (operator_named o)
     ∙ then_made _ _ _ _ (operands-read d (Some Role.Expression) (Some Role.Expression) None a b 0 st p q refl) ∙ sized-read d (Pair o a b) n is le
 
 expression_ready : (d : Said) (e : Expression) (n : ℕ) → Steady d → expression_ok (length d.variables) (length d.expressions) e ≡ true → n ≡ size d.variables d.sizes e → n ≤ 1000000000 → Ready (expression_of d) (expression_words d.variables e) (Item.Expression e n)
@@ -120,14 +133,14 @@ expression_ready d (Num z) n st ok is le =
       read = then_is _ _ _ (ap (λ o. ok_or o (Fault.Number 2)) (number_some 1000000 (signed_decimal z) z (omega arith) refl small)) ∙ sized-read d (Num z) n is le;
     }
 expression_ready d (Val x) n st ok is le =
-    record { plain = (literal (codes "val") refl refl (omega arith), (operand_plain d (Some Role.Variable) x st ok, tt)); some = omega arith; few = omega arith; read = then_made _ _ _ _ (operands-read d (Some Role.Variable) None None x 0 0 st ok refl refl) ∙ sized-read d (Val x) n is le }
+    with_one (literal (codes "val") refl refl (omega arith)) (operand_plain d (Some Role.Variable) x st ok) (then_made _ _ _ _ (operands-read d (Some Role.Variable) None None x 0 0 st ok refl refl) ∙ sized-read d (Val x) n is le)
 expression_ready d (Pair o a b) n st ok is le =
     let p = and_parts (ltb a (length d.expressions)) (ltb b (length d.expressions)) ok in
-    record { plain = (operator_plain o, (operand_plain d (Some Role.Expression) a st p.0, (operand_plain d (Some Role.Expression) b st p.1, tt))); some = omega arith; few = omega arith; read = pair_read d o a b n st p.0 p.1 is le }
+    with_two (operator_plain o) (operand_plain d (Some Role.Expression) a st p.0) (operand_plain d (Some Role.Expression) b st p.1) (pair_read d o a b n st p.0 p.1 is le)
 expression_ready d (Not a) n st ok is le =
-    record { plain = (literal (codes "not") refl refl (omega arith), (operand_plain d (Some Role.Expression) a st ok, tt)); some = omega arith; few = omega arith; read = then_made _ _ _ _ (operands-read d (Some Role.Expression) None None a 0 0 st ok refl refl) ∙ sized-read d (Not a) n is le }
+    with_one (literal (codes "not") refl refl (omega arith)) (operand_plain d (Some Role.Expression) a st ok) (then_made _ _ _ _ (operands-read d (Some Role.Expression) None None a 0 0 st ok refl refl) ∙ sized-read d (Not a) n is le)
 expression_ready d Last n st ok is le =
-    record { plain = (literal (codes "last") refl refl (omega arith), tt); some = omega arith; few = omega arith; read = sized-read d Last n is le }
+    bare (literal (codes "last") refl refl (omega arith)) (sized-read d Last n is le)
 
 -- ---- variables
 variable_ready : (d : Said) (v : Variable) → variable_ok d.variables v ≡ true → Ready (variable_of d) (variable_words v) (Item.Variable v)

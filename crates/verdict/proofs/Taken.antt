@@ -1,5 +1,5 @@
 -- What a line that is taken says: it is the writing of its item, and the item fits. Assumes nothing.
-use Rattle.std.proofs.Common.{◌≡◌, ℕ, ◌<◌, ◌≤◌, Bool, true, false, cond, not, eqb, ltb, leb, ◌⊎◌, List, [], ◌∷◌, ◌++◌, length, take, ℤ, nat_abs, is_some, Some, None, Ok, codes, decimal, Option, sym, refl, ap, ◌∙◌, subst, inl, inr, arith}
+use Rattle.std.proofs.Common.{◌≡◌, ℕ, ◌<◌, ◌≤◌, Bool, true, false, cond, not, eqb, ltb, leb, List, [], ◌∷◌, ◌++◌, length, take, ℤ, nat_abs, is_some, Some, None, Ok, codes, decimal, Option, sym, refl, ap, ◌∙◌, subst, arith}
 use lib.Signed.{le_z}
 use Rattle.std.specs.Option.{ok_or}
 use Rattle.std.specs.Fmt.{signed_decimal}
@@ -24,7 +24,7 @@ use Rattle.lines.specs.declared.items.Keyword.{Keyword}
 use Rattle.lines.specs.declared.items.Role.TheVariants as Role
 use Rattle.drafts.specs.Said.{Said}
 use Rattle.lines.specs.Forms.{when, keyword_of, bare_expression, single_expression, double_expression, bare_statement, single_statement, double_statement, triple_statement, expression_roles, statement_roles, expression_with, statement_with}
-use Rattle.lines.specs.Reading.{allowed, full, numeral, there, operands, made, sized, expression_by, statement_by, constant, expression_of, statement_of, bound, upward, fresh, variable_of, run_of, item_of, admitted, key_in, words_in, line_of}
+use Rattle.lines.specs.Reading.{allowed, full, numeral, there, then, operands, made, sized, constant, expression_of, statement_of, bound, upward, fresh, variable_of, run_of, item_of, admitted, key_in, words_in, line_of}
 use Rattle.verdict.proofs.Steps.{clash, same_ok, then_ok, or_ok, if_ok, unless_ok, unless_some, none_is}
 use Rattle.verdict.proofs.Pieces.{spaced-parted, key_split}
 use Rattle.verdict.proofs.Names.{name_is, named_ok}
@@ -101,7 +101,7 @@ constant_says d op a x e q =
     let t = number_is 1000000 a p.0 (or_ok (number_of 1000000 a) (Fault.Number 2) p.0 p.1) in
     sized_says d (op ∷ a ∷ []) (Num p.0) x (λ i. e i ∷ t.0 i ∷ []) (le-leb _ _ t.1) p.2
 
-expression_by_says : (d : Said) (o : Option Expression) (n : ℕ) (w a b c : List ℕ) (x : Item) → (n ≡ 4 → ⊥) → Finds expression_word expression_arity n w o → expression_by d o a b c ≡ Ok x → Expresses d (w ∷ take n (a ∷ b ∷ c ∷ [])) x
+expression_by_says : (d : Said) (o : Option Expression) (n : ℕ) (w a b c : List ℕ) (x : Item) → (n ≡ 4 → ⊥) → Finds expression_word expression_arity n w o → then (made expression_roles expression_with d o a b c) (sized d) ≡ Ok x → Expresses d (w ∷ take n (a ∷ b ∷ c ∷ [])) x
 expression_by_says d None n w a b c x m f q = absurd (clash q)
 expression_by_says d (Some e) n w a b c x m f q =
     let u = then_ok (made expression_roles expression_with d (Some e) a b c) _ x q in
@@ -116,7 +116,7 @@ expression_says d [] x q = absurd (clash q)
 expression_says d (w ∷ []) x q = expression_by_says d (bare_expression w) 0 w [] [] [] x (λ m. omega arith) (finds_bare_expression w) q
 expression_says d (w ∷ a ∷ []) x q = go (bytes_eq w (codes "num")) refl q
   where
-    go : (t : Bool) → bytes_eq w (codes "num") ≡ t → cond t (constant d a) (expression_by d (single_expression w) a [] []) ≡ Ok x → Expresses d (w ∷ a ∷ []) x
+    go : (t : Bool) → bytes_eq w (codes "num") ≡ t → cond t (constant d a) (then (made expression_roles expression_with d (single_expression w) a [] []) (sized d)) ≡ Ok x → Expresses d (w ∷ a ∷ []) x
     go true e r = constant_says d w a x ((bytes_eq-Decides w (codes "num")).0 e) r
     go false e r = expression_by_says d (single_expression w) 1 w a [] [] x (λ m. omega arith) (finds_single_expression w) r
 expression_says d (w ∷ a ∷ b ∷ []) x q = expression_by_says d (double_expression w) 2 w a b [] x (λ m. omega arith) (finds_double_expression w) q
@@ -126,7 +126,7 @@ expression_says d (w ∷ a ∷ b ∷ c ∷ ws) x q = absurd (clash q)
 abbrev States : Said → List (List ℕ) → Item → Type 0
 States d ws x = (s : Statement) × (x ≡ Item.Statement s) × (ws ≡ statement_words d.variables s) × Keeps d (Item.Statement s)
 
-statement_by_says : (d : Said) (o : Option Statement) (n : ℕ) (w a b c : List ℕ) (x : Item) → Finds statement_word statement_arity n w o → statement_by d o a b c ≡ Ok x → States d (w ∷ take n (a ∷ b ∷ c ∷ [])) x
+statement_by_says : (d : Said) (o : Option Statement) (n : ℕ) (w a b c : List ℕ) (x : Item) → Finds statement_word statement_arity n w o → then (made statement_roles statement_with d o a b c) (λ s. Ok (Item.Statement s)) ≡ Ok x → States d (w ∷ take n (a ∷ b ∷ c ∷ [])) x
 statement_by_says d None n w a b c x f q = absurd (clash q)
 statement_by_says d (Some s) n w a b c x f q =
     let u = then_ok (made statement_roles statement_with d (Some s) a b c) _ x q in

@@ -1,4 +1,4 @@
-use Rattle.std.proofs.Common.{Ok, sym, refl, ap, ◌∙◌}
+use Rattle.std.proofs.Common.{Ok, sym, ap, ◌∙◌}
 use Rattle.drafts.specs.Said.{said}
 use Rattle.verdict.specs.Verdict.{sheet_of}
 use Rattle.verdict.proofs.Sound.{sound}
