@@ -1,9 +1,12 @@
 -- What the search for a duty finds, and numbers that are in range.
-use Rattle.std.proofs.Common.{◌≡◌, ℕ, Bool, true, false, cond, ◌||◌, List, [], ◌∷◌, get_or, ℤ, is_some, Some, None, Option, refl, ap, ◌∙◌, subst}
+use Rattle.std.proofs.Common.{◌≡◌, ℕ, Bool, true, false, cond, ◌||◌, List, [], ◌∷◌, get_or, ℤ, is_some, Some, None, Option, sym, refl, ap, ◌∙◌, subst}
 use mathlib.Core.Path.{fun_ext}
 use Rattle.std.proofs.lemmas.Bool.{cond-true}
-use Rattle.search.specs.declared.order.Side.TheVariants.{Same}
-use Rattle.search.specs.Order.{FirstPlace, place_by, later}
+use Rattle.std.proofs.lemmas.Bool.{false≢true}
+use Rattle.std.specs.declared.cmp.Ordering.{Ordering}
+use Rattle.std.specs.declared.cmp.Ordering.TheVariants.{Less, Equal, Greater}
+use Rattle.std.specs.Ordering.{is_eq}
+use Rattle.search.specs.Order.{FirstPlace, same_by, place_by, later}
 use Rattle.search.proofs.Places.{first_place_by}
 use Rattle.sheet.specs.declared.parts.Variable.{Variable}
 use Rattle.sheet.specs.Content.{variable_at}
@@ -11,10 +14,10 @@ use Rattle.value.specs.Values.{in_range, ranged, valued}
 use Rattle.meaning.specs.declared.parts.Duty.{Duty}
 use Rattle.meaning.specs.Intervals.{Setting}
 use Rattle.meaning.specs.Order.{FitSays}
-use Rattle.meaning.specs.Orders.{by_duty}
 use Rattle.meaning.specs.Work.{same_duty, has_duty}
-use Rattle.meaning.proofs.Sorted.{duty_one, duty_same}
-use Rattle.meaning.proofs.Tests.{same_duty_says, duty_itself}
+use Rattle.meaning.specs.contracts.parts.DutyOrd.TheImpl as DutyOrd
+use Rattle.meaning.specs.contracts.parts.DutyOrd.TheImpl.Laws.{matches_eq-law}
+use Rattle.board.proofs.Alike.{duty_alike}
 
 some_later : (o : Option ℕ) → is_some (later o) ≡ is_some o
 some_later None = refl
@@ -30,14 +33,19 @@ place_has d (x ∷ l) = by (same_duty d x) (place_has d l)
     by false ih = some_later (place_by (same_duty d) l) ∙ ih
 
 -- duties that the order does not tell apart pass the test, and the other way round
-test_same : (d x : Duty) → by_duty d x ≡ Same → same_duty d x ≡ true
-test_same d x e = subst (λ z. same_duty d z ≡ true) (duty_one d x e) (duty_itself d)
+test_same : (d x : Duty) → same_by DutyOrd.cmp-value.it d x → same_duty d x ≡ true
+test_same d x e = sym (duty_alike d x) ∙ matches_eq-law d x ∙ ap is_eq e
 
-same_test : (d x : Duty) → same_duty d x ≡ true → by_duty d x ≡ Same
-same_test d x e = subst (λ z. by_duty d z ≡ Same) (same_duty_says d x e) (duty_same d)
+is_equal : (r : Ordering) → is_eq r ≡ true → r ≡ Equal
+is_equal Less e = absurd (false≢true e)
+is_equal Equal e = refl
+is_equal Greater e = absurd (false≢true e)
 
-pub found_has : (l : List Duty) (d : Duty) (r : Option ℕ) → FirstPlace (λ (a b : Duty). by_duty a b ≡ Same) l d r → is_some r ≡ has_duty d l
-found_has l d r p = ap is_some (first_place_by (λ (a b : Duty). by_duty a b ≡ Same) (same_duty d) l d r (test_same d) (same_test d) p) ∙ place_has d l
+same_test : (d x : Duty) → same_duty d x ≡ true → same_by DutyOrd.cmp-value.it d x
+same_test d x e = is_equal (DutyOrd.cmp-value.it d x) (sym (matches_eq-law d x) ∙ duty_alike d x ∙ e)
+
+pub found_has : (l : List Duty) (d : Duty) (r : Option ℕ) → FirstPlace (same_by DutyOrd.cmp-value.it) l d r → is_some r ≡ has_duty d l
+found_has l d r p = ap is_some (first_place_by (same_by DutyOrd.cmp-value.it) (same_duty d) l d r (test_same d) (same_test d) p) ∙ place_has d l
 
 -- values in their ranges are as they are
 in_its_range : (v : Variable) (o : Option ℤ) (S : Setting) (x : ℕ) → variable_at S.sheet.variables x ≡ v → FitSays S x o → ranged v o ≡ o

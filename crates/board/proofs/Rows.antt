@@ -1,16 +1,21 @@
 -- What reading and writing the rows of a board means.
-use Rattle.std.proofs.Common.{◌≡◌, ℕ, zero, suc, ◌+◌, ◌<◌, ◌≤◌, Bool, true, false, cond, ◌&&◌, ◌||◌, eqb, ltb, leb, ◌⊎◌, List, [], ◌∷◌, ◌++◌, map, length, get_or, drop, set, Some, None, sym, refl, ap, ◌∙◌, subst, ⊎_elim, add-one, arith}
+use Rattle.std.proofs.Common.{◌≡◌, ℕ, zero, suc, ◌+◌, ◌<◌, ◌≤◌, Bool, true, false, cond, ◌&&◌, ◌==◌, eqb, ltb, leb, ◌⊎◌, List, [], ◌∷◌, ◌++◌, map, length, get_or, set, Some, None, sym, refl, ap, ◌∙◌, subst, ⊎_elim, add-one, arith}
 use mathlib.Core.Path.{fun_ext}
 use mathlib.Core.List.{map-append}
 use lib.ListN.{length-map}
 use lib.Seq.{map-set_same}
-use Rattle.std.proofs.lemmas.List.{at_drop_more, at_drop_all, get_or_read_under}
-use Rattle.std.proofs.lemmas.Bool.{cond-true, cond-false, eqb-true, eq-eqb, ne_eqb, leb-true, le-leb, lt-ltb, le-ltb, and_parts, and_from, and_left, and_right, or_left}
+use Rattle.std.specs.List.{position, position_from}
+use Rattle.std.proofs.lemmas.Iterator.Adapters.{position_from-zero}
+use Rattle.std.proofs.lemmas.List.Quantifiers.{position-Some}
+use Rattle.std.proofs.lemmas.Option.{none-some}
+use Rattle.std.proofs.lemmas.List.{get_or_read_under}
+use Rattle.std.proofs.lemmas.Bool.{cond-true, cond-false, eqb-true, eq-eqb, true≢false, leb-true, le-leb, lt-ltb, le-ltb, and_parts, and_from, and_left, and_right}
 use Rattle.value.specs.declared.parts.End.{End}
+use Rattle.value.specs.declared.parts.End.TheVariants.{Unknown}
 use Rattle.meaning.specs.declared.parts.Opening.{Opening}
 use Rattle.meaning.specs.declared.parts.Duty.{Duty}
 use Rattle.meaning.specs.declared.parts.Stop.TheVariants.{Crowded}
-use Rattle.meaning.specs.Work.{set_at, plain, stops, goes, opened_by, has_opened}
+use Rattle.meaning.specs.Work.{set_at, plain, stops, goes, has_opened}
 use Rattle.meaning.specs.Effects.{with_end, with_span, open_span}
 use Rattle.meaning.specs.Order.{◌∈◌, here, there, Lives}
 use Rattle.board.specs.declared.parts.Row.{Row}
@@ -75,17 +80,6 @@ write_means m i n s r e p k q b =
     })
     ∙ ap (λ (x : ℕ). with_end e x (work m)) q.1
 
--- reading an end
-pub read_end : (l : List Row) (i n s : ℕ) (r : Row) → r ≡ get_or l i r → i < n → n ≡ length l → r.span.serial ≡ s → ends_of (drop i l) s ≡ r.end
-read_end l i n s r e h k p =
-    at_drop_more (λ (y : List Row). ends_of y s) l i r (omega arith) ∙ ap (λ (x : Row). ends_of (x ∷ drop (i + 1) l) s) (sym e)
-    ∙ cond-true (eqb r.span.serial s) r.end (ends_of (drop (i + 1) l) s) (eq-eqb r.span.serial s p)
-
-pub read_past : (l : List Row) (i n s : ℕ) (r : Row) → r ≡ get_or l i r → i < n → n ≡ length l → (r.span.serial ≡ s → ⊥) → ends_of (drop i l) s ≡ ends_of (drop (i + 1) l) s
-read_past l i n s r e h k p =
-    at_drop_more (λ (y : List Row). ends_of y s) l i r (omega arith) ∙ ap (λ (x : Row). ends_of (x ∷ drop (i + 1) l) s) (sym e)
-    ∙ cond-false (eqb r.span.serial s) r.end (ends_of (drop (i + 1) l) s) (ne_eqb r.span.serial s p)
-
 -- a span that runs has a place
 lives_past : (r : Row) (l : List Row) (s : ℕ) → (r.span.serial ≡ s → ⊥) → Lives (map span_of (r ∷ l)) s → Lives (map span_of l) s
 lives_past r l s n h = by h.inside
@@ -94,33 +88,40 @@ lives_past r l s n h = by h.inside
     by (here e) = absurd (n (sym (ap (λ t. t.serial) e) ∙ h.named))
     by (there q) = record { span = h.span; inside = q; named = h.named }
 
-pub read_lives : (l : List Row) (i n s : ℕ) (r : Row) → r ≡ get_or l i r → i < n → n ≡ length l → (r.span.serial ≡ s → ⊥) → Lives (map span_of (drop i l)) s → Lives (map span_of (drop (i + 1) l)) s
-read_lives l i n s r e h k p m =
-    lives_past r (drop (i + 1) l) s p
-    (subst (λ (y : List Row). Lives (map span_of y) s) (at_drop_more (λ (y : List Row). y) l i r (omega arith) ∙ ap (λ (x : Row). x ∷ drop (i + 1) l) (sym e)) m)
-
-pub read_serial : (l : List Row) (i n s : ℕ) (r : Row) → r ≡ get_or l i r → i < n → n ≡ length l → r.span.serial ≡ s → HasSerial l i s
-read_serial l i n s r e h k p = (omega arith, ap (λ (x : Row). x.span.serial) (sym (get_or_read_under l i n r no_row e h k)) ∙ p)
-
 lives_none : (s : ℕ) → Lives [] s → ⊥
 lives_none s h = elim h.inside [ ]
 
-pub lives_end : (l : List Row) (i s : ℕ) → length l ≤ i → Lives (map span_of (drop i l)) s → ⊥
-lives_end l i s h m = lives_none s (subst (λ (y : List Row). Lives (map span_of y) s) (at_drop_all (λ (y : List Row). y) l i h) m)
+-- the row of a span, by its serial
+abbrev pub has_serial : ℕ → Row → Bool
+has_serial s r = r.span.serial == s
 
--- the search for a span that was opened so
-abbrev pub opened_so : Opening → Row → Bool
-opened_so g r = r.span.fresh && opened_by g r.span.opening
+ends_first : (l : List Row) (i s : ℕ) (r : Row) → i < length l → r ≡ get_or l i r → eqb r.span.serial s ≡ true → ((k : ℕ) → k < i → has_serial s (get_or l k r) ≡ false) → ends_of l s ≡ r.end
+ends_first [] i s r h e p q = absurd (omega arith)
+ends_first (x ∷ l) zero s r h e p q = cond-true (eqb x.span.serial s) x.end (ends_of l s) (subst (λ (z : Row). eqb z.span.serial s ≡ true) e p) ∙ ap (λ (z : Row). z.end) (sym e)
+ends_first (x ∷ l) (suc i) s r h e p q = cond-false (eqb x.span.serial s) x.end (ends_of l s) (q 0 (omega arith)) ∙ ends_first l i s r (omega arith) e p (λ k m. q (suc k) (omega arith))
 
-pub read_opened : (g : Opening) (l : List Row) (i n : ℕ) (r : Row) → r ≡ get_or l i r → i < n → n ≡ length l → opened_so g r ≡ true → has_opened g (map span_of (drop i l)) ≡ true
-read_opened g l i n r e h k p =
-    at_drop_more (λ (y : List Row). has_opened g (map span_of y)) l i r (omega arith) ∙ ap (λ (x : Row). has_opened g (map span_of (x ∷ drop (i + 1) l))) (sym e)
-    ∙ or_left (opened_so g r) (has_opened g (map span_of (drop (i + 1) l))) p
+-- the row at the place that the search finds has the end of the span
+pub placed_end : (l : List Row) (s i : ℕ) (r : Row) → position (has_serial s) l ≡ Some i → r ≡ get_or l i r → r.end ≡ ends_of l s
+placed_end l s i r p e =
+    let f = position-Some (has_serial s) l i r p in
+    sym (ends_first l i s r f.0 e (subst (λ (z : Row). eqb z.span.serial s ≡ true) (sym e) f.1) f.2)
 
-pub read_other : (g : Opening) (l : List Row) (i n : ℕ) (r : Row) → r ≡ get_or l i r → i < n → n ≡ length l → opened_so g r ≡ false → has_opened g (map span_of (drop i l)) ≡ has_opened g (map span_of (drop (i + 1) l))
-read_other g l i n r e h k p =
-    at_drop_more (λ (y : List Row). has_opened g (map span_of y)) l i r (omega arith) ∙ ap (λ (x : Row). has_opened g (map span_of (x ∷ drop (i + 1) l))) (sym e)
-    ∙ ap (λ (b : Bool). b || has_opened g (map span_of (drop (i + 1) l))) p
+pub placed_serial : (l : List Row) (s i : ℕ) → position (has_serial s) l ≡ Some i → HasSerial l i s
+placed_serial l s i p = let f = position-Some (has_serial s) l i no_row p in (f.0, eqb-true (get_or l i no_row).span.serial s f.1)
+
+none_from : (l : List Row) (s k : ℕ) → position_from (has_serial s) k l ≡ None → (ends_of l s ≡ Unknown) × (Lives (map span_of l) s → ⊥)
+none_from [] s k p = (refl, lives_none s)
+none_from (r ∷ l) s k p = by (eqb r.span.serial s) refl p (none_from l s (k + 1))
+  where
+    by : (b : Bool) → eqb r.span.serial s ≡ b → cond b (Some k) (position_from (has_serial s) (k + 1) l) ≡ None
+        → (position_from (has_serial s) (k + 1) l ≡ None → (ends_of l s ≡ Unknown) × (Lives (map span_of l) s → ⊥))
+        → (cond b r.end (ends_of l s) ≡ Unknown) × (Lives (map span_of (r ∷ l)) s → ⊥)
+    by true e p ih = absurd (none-some k (sym p))
+    by false e p ih = let f = ih p in (f.0, λ h. f.1 (lives_past r l s (λ q. true≢false (sym (eq-eqb r.span.serial s q) ∙ e)) h))
+
+-- where the search finds none, no such span runs, and nothing is known of its end
+pub unplaced : (l : List Row) (s : ℕ) → position (has_serial s) l ≡ None → (ends_of l s ≡ Unknown) × (Lives (map span_of l) s → ⊥)
+unplaced l s p = none_from l s 0 (sym (position_from-zero (has_serial s) l) ∙ p)
 
 -- a new row
 abbrev pub new_row : Opening → ℕ → Row

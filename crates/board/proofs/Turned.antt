@@ -1,7 +1,8 @@
 -- What going on to the next state means, row by row.
-use Rattle.std.proofs.Common.{◌≡◌, ℕ, zero, suc, ◌+◌, ◌<◌, ◌≤◌, true, false, cond, eqb, leb, List, [], ◌∷◌, ◌++◌, map, length, get_or, take, drop, set, replicate, ℤ, None, Option, sym, refl, ap, ◌∙◌, subst, append_assoc, arith}
+use Rattle.std.proofs.Common.{◌≡◌, ℕ, zero, suc, ◌≤◌, Bool, true, false, cond, eqb, leb, List, [], ◌∷◌, map, get_or, replicate, ℤ, None, Option, sym, refl, ap, ◌∙◌, subst, arith}
 use mathlib.Core.Path.{fun_ext}
-use Rattle.std.proofs.lemmas.List.{at_drop_more, drop-set-lt, take_more_set}
+use Rattle.std.specs.List.Retain.{RetainsInTurn}
+use Rattle.value.specs.contracts.parts.EndPartialEq.TheImpl as EndEq
 use Rattle.std.proofs.lemmas.Bool.{cond_both, cond-true, eqb-true, eq-eqb, leb-true, le-leb, and_parts, and_from}
 use Rattle.value.specs.declared.parts.End.{End}
 use Rattle.value.specs.declared.parts.End.TheVariants.{Unknown, On, Last}
@@ -17,25 +18,19 @@ use Rattle.board.proofs.Rows.{Rising, rising_nil, rising_cons, rising_of}
 abbrev pub kept : Row → Row
 kept r = record { span = record { serial = r.span.serial; opening = r.span.opening; fresh = false }; end = Unknown }
 
-kept_at : (l : List Row) (i : ℕ) (r : Row) → i < length l → r ≡ get_or l i r → kept_rows (drop i l) ≡ kept_row r.end r (kept_rows (drop (i + 1) l))
-kept_at l i r h e = at_drop_more kept_rows l i r h ∙ ap (λ (x : Row). kept_row x.end x (kept_rows (drop (i + 1) l))) (sym e)
+by_end : (c : End) (r : Row) (l : List Row) → cond (EndEq.eq-value.it c On) (kept r ∷ l) l ≡ kept_row c r l
+by_end Unknown r l = refl
+by_end On r l = refl
+by_end Last r l = refl
 
-pub keep_write : (l : List Row) (i j n : ℕ) (r : Row) → r ≡ get_or l i r → i < n → n ≡ length l → j ≤ i → r.end ≡ On
-    → take (j + 1) (set l j (kept r)) ++ kept_rows (drop (i + 1) (set l j (kept r))) ≡ take j l ++ kept_rows (drop i l)
-keep_write l i j n r e h k p q =
-    ap (λ (x : List Row). x ++ kept_rows (drop (i + 1) (set l j (kept r)))) (take_more_set l j (kept r) (omega arith))
-    ∙ ap (λ (x : List Row). (take j l ++ (kept r ∷ [])) ++ kept_rows x) (drop-set-lt (i + 1) l j (kept r) (omega arith))
-    ∙ append_assoc (take j l) (kept r ∷ []) (kept_rows (drop (i + 1) l))
-    ∙ ap (λ (x : List Row). take j l ++ x) (sym (kept_at l i r (omega arith) e ∙ ap (λ (c : End). kept_row c r (kept_rows (drop (i + 1) l))) q))
-
-skip_by : (c : End) (r : Row) (l : List Row) → (c ≡ On → ⊥) → kept_row c r l ≡ l
-skip_by Unknown r l n = refl
-skip_by On r l n = absurd (n refl)
-skip_by Last r l n = refl
-
-pub keep_skip : (l : List Row) (i j n : ℕ) (r : Row) → r ≡ get_or l i r → i < n → n ≡ length l → (r.end ≡ On → ⊥)
-    → take j l ++ kept_rows (drop (i + 1) l) ≡ take j l ++ kept_rows (drop i l)
-keep_skip l i j n r e h k q = ap (λ (x : List Row). take j l ++ x) (sym (kept_at l i r (omega arith) e ∙ skip_by r.end r (kept_rows (drop (i + 1) l)) q))
+-- rows that are asked in turn whether they go on, and are left as the next state starts with them
+pub kept_in_turn : {S : Type 0} (R : S → Row → Bool → S → Row → Type 0)
+    → ((s : S) (x : Row) (b : Bool) (t : S) (y : Row) → R s x b t y → (b ≡ EndEq.eq-value.it x.end On) × (y ≡ kept x))
+    → (s : S) (xs ys : List Row) → RetainsInTurn R s xs ys → ys ≡ kept_rows xs
+kept_in_turn R h s [] ys p = p
+kept_in_turn R h s (x ∷ xs) ys p =
+    let k = h s x p.0 p.1 p.2 p.3 in
+    p.6 ∙ (λ i. cond (k.0 i) (k.1 i ∷ kept_in_turn R h p.1 xs p.4 p.5 i) (kept_in_turn R h p.1 xs p.4 p.5 i)) ∙ by_end x.end x (kept_rows xs)
 
 -- each row has the end that the rows tell of its serial
 rising_in : {n : ℕ} {l : List Row} → Rising n l → (r : Row) → r ∈ l → n ≤ r.span.serial

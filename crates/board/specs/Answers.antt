@@ -1,7 +1,10 @@
 -- What an answer says, with the work that is left. Assumes nothing.
-use Rattle.std.specs.Prelude.{Bool, ◌||◌, Ok, Err, Result}
+use Rattle.std.specs.Prelude.{Bool, true, false, if◌then◌else◌, ◌||◌, List, [], ◌∷◌, ◌++◌, length, Ok, Err, Result, nat_lt}
 use Rattle.meaning.specs.declared.parts.Stop.{Stop}
-use Rattle.meaning.specs.Work.{Work, Outcome, stops, goes}
+use Rattle.meaning.specs.declared.parts.Stop.TheVariants.{Crowded}
+use Rattle.meaning.specs.declared.parts.Duty.{Duty}
+use Rattle.meaning.specs.Work.{Work, Outcome, stops, goes, has_duty}
+use Rattle.meaning.specs.Effects.{most_duties}
 
 -- an answer whether anything has changed, or a stop, is an outcome
 abbrev pub told : Result Bool Stop → Work → Outcome
@@ -12,3 +15,13 @@ told (Err s) u = stops s
 abbrev pub afterwards : Bool → Result Bool Stop → Result Bool Stop
 afterwards c (Ok b) = Ok (c || b)
 afterwards c (Err s) = Err s
+
+-- the answer where a duty is added, once, to a list that has room for 512
+abbrev pub once : Duty → List Duty → Result Bool Stop
+once d l = if has_duty d l then Ok false else if nat_lt (length l) most_duties then Ok true else Err Crowded
+
+-- and the list after that answer: one duty longer, if something has changed
+abbrev pub grown : Result Bool Stop → Duty → List Duty → List Duty
+grown (Ok true) d l = l ++ d ∷ []
+grown (Ok false) d l = l
+grown (Err s) d l = l

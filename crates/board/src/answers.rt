@@ -8,8 +8,5 @@ use meaning::Stop;
 pub fn after(changed: bool, answer: Result<bool, Stop>) -> Result<bool, Stop>
     ensures { result ≡ afterwards changed answer }
 {
-    match answer {
-        Ok(again) => Ok(changed || again),
-        Err(stop) => Err(stop),
-    }
+    answer.map(|again| changed || again)
 }

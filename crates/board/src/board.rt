@@ -4,6 +4,7 @@ ghost use Rattle.board.specs.Store.{rising};
 
 use crate::parts::Row;
 use meaning::Duty;
+use sheet::MOST_VARIABLES;
 
 // The most duties in a list, and the most spans that are held at once.
 pub const MOST_DUTIES: usize = 512;
@@ -13,7 +14,7 @@ pub const MOST_SPANS: usize = 64;
 // The work of one state: the variables' numbers, the spans with their ends, this state's duties and those carried to the next.
 #[derive(Drop)]
 pub struct Board {
-    pub(crate) values: [Option<i64>; 16],
+    pub(crate) values: [Option<i64>; MOST_VARIABLES],
     pub(crate) rows: Vec<Row>,
     pub(crate) duties: Vec<Duty>,
     pub(crate) carried: Vec<Duty>,

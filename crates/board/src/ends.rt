@@ -1,10 +1,10 @@
 // The ends of spans.
-ghost use Rattle.std.specs.Prelude.{◌≡◌};
+ghost use Rattle.std.specs.Prelude.{◌≡◌, ◌==◌};
+ghost use Rattle.std.specs.List.{position};
 ghost use Rattle.meaning.specs.Order.{Lives};
 ghost use Rattle.meaning.specs.Effects.{with_end, put as putting};
 ghost use Rattle.board.specs.Answers.{told};
 ghost use Rattle.board.specs.Held.{held};
-ghost use Rattle.board.specs.Store.{HasSerial};
 
 use crate::board::Board;
 use meaning::Stop;
@@ -15,13 +15,10 @@ impl Board {
     pub fn end_of(&self, serial: u32) -> End
         ensures { result ≡ (held self.now).ends serial }
     {
-        for i in 0..self.rows.len() {
-            let row = self.rows[i];
-            if row.span.serial == serial {
-                return row.end;
-            }
+        match self.place_of(serial) {
+            Some(i) => self.rows[i].end,
+            None => End::Unknown,
         }
-        End::Unknown
     }
 
     // Puts the end of a span that runs. A contradiction is placed at `place`.
@@ -30,14 +27,12 @@ impl Board {
         ensures { told result (held self.new) ≡ putting place end serial (held self.old) }
     {
         match (self.end_of(serial), end) {
-            (End::Unknown, End::Unknown) => Ok(false),
-            (End::Unknown, _) => {
+            (End::Unknown, End::On | End::Last) => {
                 self.set_end(serial, end);
                 Ok(true)
             }
-            (End::On, End::Last) => Err(Stop::Contradiction(place)),
-            (End::Last, End::On) => Err(Stop::Contradiction(place)),
-            (_, _) => Ok(false),
+            (End::On, End::Last) | (End::Last, End::On) => Err(Stop::Contradiction(place)),
+            _ => Ok(false),
         }
     }
 
@@ -46,20 +41,15 @@ impl Board {
         requires { Lives (held self.old).spans serial }
         ensures { held self.new ≡ with_end end serial (held self.old) }
     {
-        let i = self.place_of(serial);
-        self.rows[i].end = end;
+        if let Some(i) = self.place_of(serial) {
+            self.rows[i].end = end;
+        }
     }
 
-    // The place of the row with this serial.
-    fn place_of(&self, serial: u32) -> usize
-        requires { Lives (held self.now).spans serial }
-        ensures { HasSerial self.now.rows.items result serial }
+    // The place of the row with this serial, or none.
+    fn place_of(&self, serial: u32) -> Option<usize>
+        ensures { result ≡ position (λ r. r.span.serial == serial) self.now.rows.items }
     {
-        for i in 0..self.rows.len() {
-            if self.rows[i].span.serial == serial {
-                return i;
-            }
-        }
-        unreachable()
+        self.rows.iter().position(|row| row.span.serial == serial)
     }
 }

@@ -1,11 +1,12 @@
 // What a board holds, for those who visit and record it.
-ghost use Rattle.std.specs.Prelude.{◌≡◌, ◌≤◌};
-ghost use Rattle.std.specs.List.{slice_get};
+ghost use Rattle.std.specs.Prelude.{◌≡◌, ◌≤◌, is_none, take, if◌then◌else◌, None, Some};
+ghost use Rattle.std.specs.List.{position, slice_get};
 ghost use Rattle.meaning.specs.Runs.{all_ended, left_open, state_of};
 ghost use Rattle.board.specs.Held.{held};
 
 use crate::board::Board;
-use meaning::{Duty, Span};
+use meaning::{Duty, LeftOpen, Span};
+use sheet::MOST_VARIABLES;
 use value::End;
 
 impl Board {
@@ -13,59 +14,50 @@ impl Board {
     pub fn duty(&self, place: usize) -> Option<Duty>
         ensures { result ≡ slice_get (held self.now).duties place }
     {
-        if place < self.duties.len() {
-            Some(self.duties[place])
-        } else {
-            None
-        }
+        self.duties.get(place).copied()
     }
 
     // The span at a place, in the order of opening, or none past the end.
     pub fn span(&self, place: usize) -> Option<Span>
         ensures { result ≡ slice_get (held self.now).spans place }
     {
-        if place < self.rows.len() {
-            Some(self.rows[place].span)
-        } else {
-            None
-        }
+        self.rows.get(place).map(|row| row.span)
     }
 
-    // What a settled state of this many variables leaves open: its lowest unknown variable, or 99 where only a span's end is unknown.
-    pub fn left_open(&self, width: usize) -> Option<u16>
+    // What a settled state of this many variables leaves open: its lowest unknown variable, or an end where only a span's end is unknown.
+    pub fn left_open(&self, width: usize) -> Option<LeftOpen>
         requires { width ≤ 16 }
         ensures { result ≡ left_open width (held self.now) }
     {
-        for x in 0..width {
-            let value = self.values[x];
-            if let None = value {
-                return Some(x as u16);
-            }
+        // `as` stays: the place is below 16, and `try_from` would add an error that cannot come.
+        match self.lowest_unknown(width) {
+            Some(x) => Some(LeftOpen::Variable(x as u16)),
+            None if self.all_ended() => None,
+            None => Some(LeftOpen::End),
         }
-        if self.all_ended() { None } else { Some(99) }
+    }
+
+    // The lowest variable without a number among the first of this many, or none.
+    fn lowest_unknown(&self, width: usize) -> Option<usize>
+        requires { width ≤ 16 }
+        ensures { result ≡ position is_none (take width self.now.values) }
+    {
+        self.values[..width]
+            .iter()
+            .position(|value| value.is_none())
     }
 
     // Whether all ends of spans are known.
     fn all_ended(&self) -> bool
         ensures { result ≡ all_ended (held self.now).ends (held self.now).spans }
     {
-        for i in 0..self.rows.len() {
-            let row = self.rows[i];
-            if let End::Unknown = row.end {
-                return false;
-            }
-        }
-        true
+        self.rows.iter().all(|row| row.end != End::Unknown)
     }
 
     // The numbers of the variables, with 0 for each that is unknown or not there.
-    pub fn numbers(&self) -> [i64; 16]
+    pub fn numbers(&self) -> [i64; MOST_VARIABLES]
         ensures { result ≡ state_of 16 (held self.now) }
     {
-        let mut numbers = [0i64; 16];
-        for x in 0..16 {
-            numbers[x] = self.values[x].unwrap_or(0);
-        }
-        numbers
+        self.values.map(|value| value.unwrap_or(0))
     }
 }

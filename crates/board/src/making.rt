@@ -4,6 +4,7 @@ ghost use Rattle.meaning.specs.Runs.{begun};
 ghost use Rattle.board.specs.Held.{held};
 
 use crate::board::{Board, MOST_DUTIES, MOST_SPANS};
+use sheet::MOST_VARIABLES;
 use std::alloc::{AllocError, Global};
 
 impl Board {
@@ -15,7 +16,7 @@ impl Board {
         let duties = Vec::with_capacity(heap, MOST_DUTIES)?;
         let carried = Vec::with_capacity(heap, MOST_DUTIES)?;
         Ok(Board {
-            values: [None; 16],
+            values: [None; MOST_VARIABLES],
             rows,
             duties,
             carried,

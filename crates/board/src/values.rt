@@ -1,6 +1,6 @@
 // The numbers of variables and expressions.
 ghost use Rattle.std.specs.Prelude.{◌≡◌, ℕ, ◌<◌, ℤ, vec_len, Option as Maybe};
-ghost use Rattle.value.specs.Values.{known_at, in_range};
+ghost use Rattle.value.specs.Values.{known_at};
 ghost use Rattle.sheet.specs.Content.{variable_at};
 ghost use Rattle.meaning.specs.Intervals.{under};
 ghost use Rattle.meaning.specs.Order.{FitSays};
@@ -10,15 +10,8 @@ ghost use Rattle.board.specs.Held.{held, sheet_of};
 
 use crate::board::Board;
 use meaning::Stop;
-use sheet::{Sheet, Variable};
+use sheet::Sheet;
 use value::Memo;
-
-// Whether a number lies in a variable's range.
-fn in_range(variable: Variable, number: i64) -> bool
-    ensures { result ≡ in_range variable number }
-{
-    variable.low as i64 <= number && number <= variable.high as i64
-}
 
 impl Board {
     // Gives a variable of the sheet its number. A contradiction is placed at `place`.
@@ -32,21 +25,14 @@ impl Board {
         requires { variable < vec_len sheet.now.tables.variables }
         ensures { (f : ℕ → ℕ → Maybe ℤ) → told result (held self.new) ≡ giving (under (sheet_of sheet.now) f) place variable number (held self.old) }
     {
-        match self.values[variable as usize] {
-            None => {
-                if !in_range(sheet.tables.variables[variable as usize], number) {
-                    return Err(Stop::Contradiction(place));
-                }
-                self.values[variable as usize] = Some(number);
+        let x = usize::from(variable);
+        match self.values[x] {
+            Some(held) if held == number => Ok(false),
+            None if value::in_range(sheet.tables.variables[x], number) => {
+                self.values[x] = Some(number);
                 Ok(true)
             }
-            Some(held) => {
-                if held == number {
-                    Ok(false)
-                } else {
-                    Err(Stop::Contradiction(place))
-                }
-            }
+            _ => Err(Stop::Contradiction(place)),
         }
     }
 

@@ -1,19 +1,7 @@
--- At the end all rows that go on stand in front.
-use Rattle.std.proofs.Common.{List, ◌++◌, take, vec_items, sym, ap, ◌∙◌, append-nil, arith}
-use Rattle.std.proofs.lemmas.List.{at_drop_all}
-use Rattle.board.specs.declared.parts.Row.{Row}
-use Rattle.board.specs.Store.{kept_rows}
+-- Each row is asked once: a row that goes on stays, as the next state starts with it.
+use Rattle.std.proofs.Common.{rules, vec_items}
+use Rattle.board.proofs.Turned.{kept_in_turn}
 use Rattle.board.proofs.turning.keep_rows.Goals as goal
 
-pub loop-i-preserved : goal.loop-i-preserved
-loop-i-preserved c = (c.keep_row-j.ensures.items ∙ c.loop-i.invariant.0, c.keep_row-j.ensures.place, c.keep_row-j.ensures.size ∙ c.loop-i.invariant.2, c.keep_row-j.ensures.space ∙ c.loop-i.invariant.3)
-
-pub returns : goal.returns
-returns c =
-    let v = c.loop-i.rows in
-    let l = vec_items v in
-    record {
-      items = c.truncate.ensures.items ∙ sym (append-nil (take c.loop-i.j l)) ∙ ap (λ (x : List Row). take c.loop-i.j l ++ x) (sym (at_drop_all kept_rows l c.loop-i.i (omega (arith, v.ok.0)))) ∙ c.loop-i.invariant.0;
-      fewer = omega arith;
-      space = c.truncate.ensures.capacity ∙ c.loop-i.invariant.3;
-    }
+pub returns-clause-items : goal.returns-clause-items
+returns-clause-items c = kept_in_turn _ (λ s x b t y k. search rules) _ (vec_items c.args.rows.now) _ c.retain_mut.ensures.filtered

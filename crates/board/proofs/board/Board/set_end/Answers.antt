@@ -1,20 +1,24 @@
 -- A row with another end is a span with that end.
-use Rattle.std.proofs.Common.{vec_items, vec_len, arith}
+use Rattle.std.proofs.Common.{vec_items, vec_len, sym, ◌∙◌, arith}
 use Rattle.board.specs.Held.{store}
-use Rattle.board.proofs.Rows.{write_rising, write_means}
+use Rattle.board.proofs.Rows.{write_rising, write_means, placed_serial, unplaced}
 use Rattle.board.proofs.board.Board.set_end.Goals as goal
 
 pub invariant_of-self : goal.invariant_of-self
 invariant_of-self c =
     let b = c.args.self.now in
+    let p = placed_serial (vec_items b.rows) c.args.serial c.in-Some.i (sym c.place_of.ensures ∙ c.in-Some.is) in
     record {
       few = b.few;
       room = b.room;
-      ordered = write_rising (vec_items b.rows) c.place_of-i.result (vec_len b.rows) b.next c.index_mut.result.now c.args.end c.index_mut.ensures.value (omega (arith, c.place_of-i.ensures.0, b.rows.ok.0)) b.rows.ok.0 b.ordered;
+      ordered = write_rising (vec_items b.rows) c.in-Some.i (vec_len b.rows) b.next c.index_mut.result.now c.args.end c.index_mut.ensures.value (omega (arith, p.0, b.rows.ok.0)) b.rows.ok.0 b.ordered;
       counted = b.counted;
     }
 
-pub returns : goal.returns
-returns c =
+pub returns-in-Some : goal.returns-in-Some
+returns-in-Some c =
     let b = c.args.self.now in
-    write_means (store b) c.place_of-i.result (vec_len b.rows) c.args.serial c.index_mut.result.now c.args.end c.index_mut.ensures.value b.rows.ok.0 c.place_of-i.ensures b.ordered
+    write_means (store b) c.in-Some.i (vec_len b.rows) c.args.serial c.index_mut.result.now c.args.end c.index_mut.ensures.value b.rows.ok.0 (placed_serial (vec_items b.rows) c.args.serial c.in-Some.i (sym c.place_of.ensures ∙ c.in-Some.is)) b.ordered
+
+pub returns-in_default : goal.returns-in_default
+returns-in_default c = absurd ((unplaced (vec_items c.args.self.now.rows) c.args.serial (sym c.place_of.ensures ∙ c.in_default.is)).1 c.requires)
