@@ -6,8 +6,8 @@ use Rattle.std.proofs.lemmas.Bool.{false≢true}
 use Rattle.std.specs.declared.cmp.Ordering.{Ordering}
 use Rattle.std.specs.declared.cmp.Ordering.TheVariants.{Less, Equal, Greater}
 use Rattle.std.specs.Ordering.{is_eq}
-use Rattle.search.specs.Order.{FirstPlace, same_by, place_by, later}
-use Rattle.search.proofs.Places.{first_place_by}
+use Rattle.search.specs.Order.{FirstPlace, same_by}
+use Rattle.search.proofs.Places.{place_by, later, first_place_by}
 use Rattle.sheet.specs.declared.parts.Variable.{Variable}
 use Rattle.sheet.specs.Content.{variable_at}
 use Rattle.value.specs.Values.{in_range, ranged, valued}

@@ -1,7 +1,17 @@
 -- What a search finds is one place, and can be computed by a test. Assumes nothing.
 use Rattle.std.proofs.Common.{◌≡◌, ℕ, zero, suc, ◌<◌, Bool, true, false, cond, List, [], ◌∷◌, length, get_or, Some, None, Option, refl, ap, ⊎_elim, arith}
 use Rattle.std.proofs.lemmas.Bool.{cases_lt}
-use Rattle.search.specs.Order.{FirstPlace, later, place_by}
+use Rattle.search.specs.Order.{FirstPlace}
+
+-- a place, seen from one place further ahead
+abbrev pub later : Option ℕ → Option ℕ
+later None = None
+later (Some i) = Some (suc i)
+
+-- the first place whose item passes the test, or none
+abbrev pub place_by : {X : Type 0} → (X → Bool) → List X → Option ℕ
+place_by t [] = None
+place_by t (x ∷ xs) = cond (t x) (Some 0) (later (place_by t xs))
 
 -- two answers of one search are equal
 pub first_unique : {X : Type 0} (same : X → X → Type 0) (xs : List X) (x : X) (r s : Option ℕ) → FirstPlace same xs x r → FirstPlace same xs x s → r ≡ s

@@ -1,5 +1,5 @@
 -- What a total order is, and what a search in a list finds. Assumes nothing.
-use Rattle.std.specs.Prelude.{◌≡◌, ℕ, suc, ◌<◌, Bool, cond, ◌⊎◌, List, [], ◌∷◌, length, Some, None, Option, slice_index_or}
+use Rattle.std.specs.Prelude.{◌≡◌, ℕ, ◌<◌, ◌⊎◌, List, length, Some, None, Option, slice_index_or}
 use Rattle.std.specs.declared.cmp.Ordering.{Ordering}
 use Rattle.std.specs.declared.cmp.Ordering.TheVariants.{Less, Equal}
 
@@ -38,13 +38,3 @@ abbrev pub FirstPlace : {X : Type 0} → (X → X → Type 0) → List X → X �
 FirstPlace same xs x None = (k : ℕ) → k < length xs → same x (slice_index_or xs k x) → ⊥
 -- the item at i is the same as x, and none ahead of it is
 FirstPlace same xs x (Some i) = (i < length xs) × same x (slice_index_or xs i x) × ((k : ℕ) → k < i → same x (slice_index_or xs k x) → ⊥)
-
--- a place, seen from one place further ahead
-abbrev pub later : Option ℕ → Option ℕ
-later None = None
-later (Some i) = Some (suc i)
-
--- the first place whose item passes the test, or none
-abbrev pub place_by : {X : Type 0} → (X → Bool) → List X → Option ℕ
-place_by t [] = None
-place_by t (x ∷ xs) = cond (t x) (Some 0) (later (place_by t xs))
