@@ -1,1 +1,2 @@
--- This crate's contracts cite what a visit does, and nothing of their own.
+-- What the contracts of this crate say: what a visit asks of the work before it, and what the rule of a statement makes of that work.
+pub mod Visits

@@ -2,6 +2,7 @@
 #![tactic(auto)]
 
 mod opening;
+mod parts;
 mod plain;
 mod spans;
 mod visiting;

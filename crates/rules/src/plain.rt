@@ -39,16 +39,20 @@ pub(crate) fn on_and_carry(board: &mut Board, duty: Duty, next: Duty) -> Result<
     requires { Lives (held board.old).spans duty.span }
     ensures { told result (held board.new) ≡ and_then (putting duty.statement on_end duty.span (held board.old)) (carrying next) }
 {
-    let changed = board.put(duty.statement, End::On, duty.span)?;
-    after(changed, board.carry(next))
+    after(
+        board.put(duty.statement, End::On, duty.span)?,
+        board.carry(next),
+    )
 }
 
 // `and`: both parts are added.
 pub(crate) fn and_rule(board: &mut Board, duty: Duty, p: u16, q: u16) -> Result<bool, Stop>
     ensures { told result (held board.new) ≡ and_then (adding (plain p duty.span) (held board.old)) (adding (plain q duty.span)) }
 {
-    let changed = board.add(plainly(p, duty.span))?;
-    after(changed, board.add(plainly(q, duty.span)))
+    after(
+        board.add(plainly(p, duty.span))?,
+        board.add(plainly(q, duty.span)),
+    )
 }
 
 // The duty is carried where its span is on.
@@ -65,8 +69,7 @@ fn carry_if_on(board: &mut Board, duty: Duty) -> Result<bool, Stop>
 pub(crate) fn always_rule(board: &mut Board, duty: Duty, p: u16) -> Result<bool, Stop>
     ensures { told result (held board.new) ≡ and_then (adding (plain p duty.span) (held board.old)) (λ u. when_on (u.ends duty.span) (carrying duty) u) }
 {
-    let changed = board.add(plainly(p, duty.span))?;
-    after(changed, carry_if_on(board, duty))
+    after(board.add(plainly(p, duty.span))?, carry_if_on(board, duty))
 }
 
 // `halt`, whose test has this number.
@@ -99,6 +102,5 @@ pub(crate) fn len_by(board: &mut Board, duty: Duty, number: i64) -> Result<bool,
 pub(crate) fn gets_by(board: &mut Board, duty: Duty, number: i64) -> Result<bool, Stop>
     ensures { told result (held board.new) ≡ gets_rule duty number (held board.old) }
 {
-    let changed = board.carry(with_number(duty, number))?;
-    after(changed, board.carry(duty))
+    after(board.carry(with_number(duty, number))?, board.carry(duty))
 }

@@ -39,8 +39,10 @@ fn visit_opened(board: &mut Board, opening: Opening, serial: u32) -> Result<bool
     requires outer { Lives (held board.old).spans opening.follower.span }
     ensures { told result (held board.new) ≡ and_then (take_last ((held board.old).ends opening.follower.span) opening.by serial (held board.old)) (λ u. hand_on (u.ends serial) opening u) }
 {
-    let changed = take_last(board, opening, serial)?;
-    after(changed, hand_on(board, opening, serial))
+    after(
+        take_last(board, opening, serial)?,
+        hand_on(board, opening, serial),
+    )
 }
 
 // A visit to a span. The whole interval has nothing around it.

@@ -1,0 +1,23 @@
+-- What a visit to a duty asks of the work before it, and what a statement's rule makes of that work. Assumes nothing.
+use Rattle.std.specs.Prelude.{ℕ, ℤ, Option}
+use Rattle.sheet.specs.declared.kept.Sheet.{Sheet}
+use Rattle.sheet.specs.declared.parts.Statement.{Statement}
+use Rattle.meaning.specs.Intervals.{under}
+use Rattle.meaning.specs.Order.{Lives, FitSays}
+use Rattle.meaning.specs.Rules.{rule}
+use Rattle.meaning.specs.Work.{Work, Outcome}
+use Rattle.board.specs.Held.{sheet_of}
+use Rattle.rules.specs.declared.parts.Visit.{Visit}
+
+-- every number that is known lies in its range, whatever is read
+abbrev pub Fitted : Sheet → Work → Type 0
+Fitted s w = (f : ℕ → ℕ → Option ℤ) (y : ℕ) → FitSays (under (sheet_of s) f) y (w.known y)
+
+-- what the visit asks of the work w: the duty's span runs, and every known number fits
+pub record Ready {F : Type 0} (v : Visit F) (w : Work) : Type 0 where
+  pub lives : Lives w.spans v.duty.span
+  pub fitted : Fitted v.sheet.now w
+
+-- what the rule of the statement t makes of the work w at this visit, where the feed has these readings
+abbrev pub ruled : {F : Type 0} → (F → ℕ → ℕ → Option ℤ) → Visit F → Statement → Work → Outcome
+ruled readings v t w = rule (under (sheet_of v.sheet.now) (readings v.feed.now)) v.state t v.duty.number v.duty w
