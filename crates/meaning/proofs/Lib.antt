@@ -28,3 +28,4 @@ pub mod Later
 pub mod Spent
 pub mod Spending
 pub mod Idle
+pub mod Sorted

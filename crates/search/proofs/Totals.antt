@@ -1,7 +1,7 @@
 -- Comparisons that are total orders, in the words of this crate.
 use Rattle.std.proofs.Common.{◌≡◌, ℕ, ◌⊎◌, List, [], ◌∷◌, sym, ap, ◌∙◌, inl, inr, refl}
 use Rattle.std.proofs.lemmas.Bool.{true≢false}
-use Rattle.std.proofs.lemmas.Cmp.{alike_right, tied_back, tied_itself, on_total, ranked, nat_list_cmp_total}
+use Rattle.std.proofs.lemmas.Cmp.{alike_right, tied_back, tied_itself, on_total, ranked, nat_cmp_total, nat_list_cmp_total}
 use Rattle.std.specs.Cmp.{IsTotalOrder}
 use Rattle.std.specs.Cmp.Lexicographic.{slice_cmp}
 use Rattle.std.specs.declared.cmp.Ordering.{Ordering}
@@ -65,3 +65,15 @@ pub sides_of : (a b : List ℕ) (r : Ordering) → r ≡ slice_cmp nat_cmp a b �
 sides_of a b Less e = sym e
 sides_of a b Equal e = bytes_same a b (sym e)
 sides_of a b Greater e = lies_of (slice_cmp nat_cmp) nat_list_cmp_total a b Greater e
+
+-- a byte string compares as the same with itself
+pub bytes_refl : (a : List ℕ) → same_by (slice_cmp nat_cmp) a a
+bytes_refl = tied_itself nat_list_cmp_total
+
+-- the order of numbers
+pub total_number : Total (below_by nat_cmp) (same_by nat_cmp)
+total_number = total_of nat_cmp nat_cmp_total
+
+-- the order of byte strings
+pub total_bytes : Total (below_by (slice_cmp nat_cmp)) (same_by (slice_cmp nat_cmp))
+total_bytes = total_of (slice_cmp nat_cmp) nat_list_cmp_total
