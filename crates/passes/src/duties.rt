@@ -1,5 +1,5 @@
 // Visits to the duties of a state.
-ghost use Rattle.std.specs.Prelude.{◌≡◌, ◌||◌, length, Some as some, OnOk, slice_index_or};
+ghost use Rattle.std.specs.Prelude.{◌≡◌, length, Some as some, OnOk, slice_index_or};
 ghost use Rattle.std.specs.List.{slice_get};
 ghost use Rattle.sheet.specs.declared.parts.Statement.TheVariants.{True as true_so};
 ghost use Rattle.meaning.specs.Intervals.{under, statement_at};
@@ -16,25 +16,14 @@ use meaning::{Duty, Stop};
 use sheet::{Sheet, Statement};
 use value::Memo;
 
-// Whether one of the two is so.
-pub(crate) fn joined(a: bool, b: bool) -> bool
-    ensures { result ≡ (a || b) }
-{
-    a || b
-}
-
 // Whether a statement is an `always`.
 fn is_lasting(sheet: &Sheet, statement: u16) -> bool
     ensures { result ≡ lasting (slice_index_or sheet.now.tables.statements.items statement true_so) }
 {
-    let place = statement as usize;
-    if place >= sheet.tables.statements.len() {
-        return false;
-    }
-    match sheet.tables.statements[place] {
-        Statement::Always(_) => true,
-        _ => false,
-    }
+    matches!(
+        sheet.tables.statements.get(usize::from(statement)),
+        Some(Statement::Always(_)),
+    )
 }
 
 // The visit to the duty at a place. It is left out where the place is marked, since it would change nothing.
@@ -85,8 +74,7 @@ pub(crate) fn visit_duties<F: Feed>(
     let mut changed = false;
     let mut i = 0;
     while let Some(duty) = board.duty(i) {
-        let c = visit_at(board, sheet, feed, memo, marks, state, i, duty)?;
-        changed = joined(changed, c);
+        changed |= visit_at(board, sheet, feed, memo, marks, state, i, duty)?;
         i += 1;
     }
     Ok(changed)

@@ -5,6 +5,7 @@ use board::{MOST_DUTIES, MOST_SPANS};
 use std::alloc::{AllocError, Global};
 
 // A mark for each place of the lists of duties and spans, reserved once.
+// Marks stand beside the board's lists and not in them: a duty is looked for and carried whole, and a mark is no part of it.
 #[derive(Drop)]
 pub struct Marks {
     pub(crate) duties: Vec<bool>,
@@ -27,7 +28,5 @@ impl Marks {
 pub(crate) fn clear(marks: &mut [bool])
     ensures { (k : ℕ) → slice_index_or marks.new k false ≡ false }
 {
-    for mark in marks.iter_mut() {
-        *mark = false;
-    }
+    marks.fill(false);
 }

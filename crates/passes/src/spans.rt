@@ -9,7 +9,6 @@ ghost use Rattle.board.specs.Answers.{told};
 ghost use Rattle.board.specs.Held.{held};
 ghost use Rattle.passes.specs.Marked.{MarkedSpans};
 
-use crate::duties::joined;
 use board::Board;
 use meaning::{Span, Stop};
 
@@ -50,8 +49,7 @@ pub(crate) fn visit_spans(board: &mut Board, marks: &mut [bool]) -> Result<bool,
     let mut changed = false;
     let mut i = 0;
     while let Some(span) = board.span(i) {
-        let c = visit_span_at(board, marks, i, span)?;
-        changed = joined(changed, c);
+        changed |= visit_span_at(board, marks, i, span)?;
         i += 1;
     }
     Ok(changed)
