@@ -1,61 +1,31 @@
--- The visits to a list, one after another.
-use Rattle.std.proofs.Common.{◌≡◌, ℕ, zero, suc, ◌+◌, ◌-◌, ◌<◌, Bool, true, false, ◌||◌, List, [], ◌∷◌, drop, Some, None, Option, sym, refl, ap, ◌∙◌, arith}
+-- The visits to duties and to spans, as the visits to one list.
+use Rattle.std.proofs.Common.{◌≡◌, ℕ, zero, suc, ◌+◌, ◌<◌, ◌≤◌, Bool, List, [], ◌∷◌, length, drop, Some, None, Option, sym, refl, ap, ◌∙◌, arith}
+use mathlib.Core.Path.{fun_ext}
 use Rattle.std.specs.List.{slice_get}
 use Rattle.meaning.specs.declared.parts.Duty.{Duty}
 use Rattle.meaning.specs.declared.parts.Span.{Span}
-use Rattle.meaning.specs.declared.parts.Stop.{Stop}
 use Rattle.meaning.specs.Intervals.{Setting}
 use Rattle.meaning.specs.Work.{Work, Outcome, stops, goes, also, and_then}
 use Rattle.meaning.specs.Rules.{visit, visit_span}
 use Rattle.meaning.specs.Passes.{pass_fuel, visit_or, visit_duties, visit_spans}
-use Rattle.meaning.proofs.Lists.{none_some}
+use Rattle.meaning.proofs.Lists.{none_some, nth_within}
+use Rattle.passes.specs.Walks.{visit_one, visit_from}
+use Rattle.passes.proofs.Keeping.{span_same}
 
 -- the fuel of a pass is one more than the most duties
 pub fuel_is : pass_fuel ≡ 513
 unfolding pass_fuel
 fuel_is = refl
 
--- or, of three
-or_more : (a b c : Bool) → (a || (b || c)) ≡ ((a || b) || c)
-or_more true b c = refl
-or_more false b c = refl
+one_as : (S : Setting) (k : ℕ) (o : Option Duty) (rest : Work → Outcome) (w : Work) → visit_or S k o rest w ≡ visit_one (visit S k) o rest w
+one_as S k None rest w = refl
+one_as S k (Some d) rest w = refl
 
--- something has changed before, and before that
-also_twice : (a c : Bool) (o : Outcome) → also a (also c o) ≡ also (a || c) o
-also_twice a c (stops s) = refl
-also_twice a c (goes u b) = ap (goes u) (or_more a c b)
-
--- nothing more has changed
-or_no : (a : Bool) → (a || false) ≡ a
-or_no true = refl
-or_no false = refl
-
--- one fuel more
-fuel_more : (S : Setting) (k n i : ℕ) (w : Work) → i < n → visit_duties S k (n - i) i w ≡ visit_or S k (slice_get w.duties i) (visit_duties S k (n - (i + 1)) (i + 1)) w
-fuel_more S k n i w h =
-    let a : n - i ≡ suc (n - (i + 1)) = omega arith in
-    let b : suc i ≡ i + 1 = omega arith in
-    ap (λ (z : ℕ). visit_duties S k z i w) a ∙ ap (λ (z : ℕ). visit_or S k (slice_get w.duties i) (visit_duties S k (n - (i + 1)) z) w) b
-
--- the visits from place i on, where a duty stands there
-duties_more : (S : Setting) (k n i : ℕ) (d : Duty) (w : Work) (x : Outcome) → i < n → slice_get w.duties i ≡ Some d → x ≡ visit S k d w → visit_duties S k (n - i) i w ≡ and_then x (visit_duties S k (n - (i + 1)) (i + 1))
-duties_more S k n i d w x h e p =
-    fuel_more S k n i w h ∙ ap (λ (q : Option Duty). visit_or S k q (visit_duties S k (n - (i + 1)) (i + 1)) w) e ∙ ap (λ (z : Outcome). and_then z (visit_duties S k (n - (i + 1)) (i + 1))) (sym p)
-
--- what the visits from place i on come to stays, after the one at i
-pub duties_next : (S : Setting) (k n i : ℕ) (d : Duty) (w u : Work) (a c : Bool) (o : Outcome) → i < n → slice_get w.duties i ≡ Some d → goes u c ≡ visit S k d w → also a (visit_duties S k (n - i) i w) ≡ o
-    → also (a || c) (visit_duties S k (n - (i + 1)) (i + 1) u) ≡ o
-duties_next S k n i d w u a c o h e p q =
-    sym (also_twice a c (visit_duties S k (n - (i + 1)) (i + 1) u)) ∙ sym (ap (also a) (duties_more S k n i d w (goes u c) h e p)) ∙ q
-
--- a stop at i ends them
-pub duties_stop : (S : Setting) (k n i : ℕ) (d : Duty) (w : Work) (s : Stop) (a : Bool) (o : Outcome) → i < n → slice_get w.duties i ≡ Some d → stops s ≡ visit S k d w → also a (visit_duties S k (n - i) i w) ≡ o → stops s ≡ o
-duties_stop S k n i d w s a o h e p q = sym (ap (also a) (duties_more S k n i d w (stops s) h e p)) ∙ q
-
--- past the last duty there is no more to visit
-pub duties_over : (S : Setting) (k n i : ℕ) (w : Work) (a : Bool) (o : Outcome) → i < n → slice_get w.duties i ≡ None → also a (visit_duties S k (n - i) i w) ≡ o → goes w a ≡ o
-duties_over S k n i w a o h e q =
-    sym (ap (also a) (fuel_more S k n i w h ∙ ap (λ (z : Option Duty). visit_or S k z (visit_duties S k (n - (i + 1)) (i + 1)) w) e) ∙ ap (goes w) (or_no a)) ∙ q
+-- the visits to the duties
+pub duties_as : (S : Setting) (k n i : ℕ) (w : Work) → visit_duties S k n i w ≡ visit_from (λ v. v.duties) (visit S k) n i w
+duties_as S k zero i w = refl
+duties_as S k (suc n) i w =
+    one_as S k (slice_get w.duties i) (visit_duties S k n (suc i)) w ∙ ap (λ (f : Work → Outcome). visit_one (visit S k) (slice_get w.duties i) f w) (fun_ext (duties_as S k n (suc i)))
 
 -- the list from a place on, where a span stands there
 drop_more : (l : List Span) (i : ℕ) (t : Span) → slice_get l i ≡ Some t → drop i l ≡ (t ∷ drop (suc i) l)
@@ -70,22 +40,25 @@ drop_past [] (suc i) e = refl
 drop_past (x ∷ l) zero e = absurd (none_some x (sym e))
 drop_past (x ∷ l) (suc i) e = drop_past l i e
 
--- the visits to the spans from place i on, where a span stands there
-spans_more : (i : ℕ) (t : Span) (w : Work) (x : Outcome) → slice_get w.spans i ≡ Some t → x ≡ visit_span t w → visit_spans (drop i w.spans) w ≡ and_then x (visit_spans (drop (i + 1) w.spans))
-spans_more i t w x e p =
-    let b : suc i ≡ i + 1 = omega arith in
-    ap (λ (l : List Span). visit_spans l w) (drop_more w.spans i t e ∙ ap (λ (z : ℕ). t ∷ drop z w.spans) b) ∙ ap (λ (z : Outcome). and_then z (visit_spans (drop (i + 1) w.spans))) (sym p)
+-- two ways to go on agree after an outcome, if they agree at its work
+then_alike : (o : Outcome) (f h : Work → Outcome) → ((u : Work) (c : Bool) → goes u c ≡ o → f u ≡ h u) → and_then o f ≡ and_then o h
+then_alike (stops s) f h e = refl
+then_alike (goes u c) f h e = ap (also c) (e u c refl)
 
--- what they come to stays, after the one at i
-pub spans_next : (i : ℕ) (t : Span) (w u : Work) (a c : Bool) (o : Outcome) → slice_get w.spans i ≡ Some t → goes u c ≡ visit_span t w → u.spans ≡ w.spans → also a (visit_spans (drop i w.spans) w) ≡ o
-    → also (a || c) (visit_spans (drop (i + 1) u.spans) u) ≡ o
-spans_next i t w u a c o e p h q =
-    ap (λ (l : List Span). also (a || c) (visit_spans (drop (i + 1) l) u)) h ∙ sym (also_twice a c (visit_spans (drop (i + 1) w.spans) u)) ∙ sym (ap (also a) (spans_more i t w (goes u c) e p)) ∙ q
-
--- a stop at i ends them
-pub spans_stop : (i : ℕ) (t : Span) (w : Work) (s : Stop) (a : Bool) (o : Outcome) → slice_get w.spans i ≡ Some t → stops s ≡ visit_span t w → also a (visit_spans (drop i w.spans) w) ≡ o → stops s ≡ o
-spans_stop i t w s a o e p q = sym (ap (also a) (spans_more i t w (stops s) e p)) ∙ q
-
--- past the last span there is no more to visit
-pub spans_over : (i : ℕ) (w : Work) (a : Bool) (o : Outcome) → slice_get w.spans i ≡ None → also a (visit_spans (drop i w.spans) w) ≡ o → goes w a ≡ o
-spans_over i w a o e q = sym (ap (λ (l : List Span). also a (visit_spans l w)) (drop_past w.spans i e) ∙ ap (goes w) (or_no a)) ∙ q
+-- the visits to the spans, which open none
+pub spans_as : (n i : ℕ) (w : Work) → i ≤ length w.spans → length w.spans < n + i → visit_spans (drop i w.spans) w ≡ visit_from (λ v. v.spans) visit_span n i w
+spans_as zero i w h l = absurd (omega arith)
+spans_as (suc n) i w h l = by (slice_get w.spans i) refl (λ u. spans_as n (suc i) u)
+  where
+    by : (o : Option Span) → slice_get w.spans i ≡ o
+        → ((u : Work) → suc i ≤ length u.spans → length u.spans < n + suc i → visit_spans (drop (suc i) u.spans) u ≡ visit_from (λ v. v.spans) visit_span n (suc i) u)
+        → visit_spans (drop i w.spans) w ≡ visit_one visit_span o (visit_from (λ v. v.spans) visit_span n (suc i)) w
+    by None e f = ap (λ (z : List Span). visit_spans z w) (drop_past w.spans i e)
+    by (Some t) e f =
+        ap (λ (z : List Span). visit_spans z w) (drop_more w.spans i t e)
+        ∙ then_alike (visit_span t w) (visit_spans (drop (suc i) w.spans)) (visit_from (λ v. v.spans) visit_span n (suc i))
+        (λ u c q.
+        let s = span_same t w u c q in
+        let a = nth_within w.spans i t e in
+        let b : length u.spans ≡ length w.spans = ap (λ (z : List Span). length z) s in
+        ap (λ (z : List Span). visit_spans (drop (suc i) z) u) (sym s) ∙ f u (omega (arith, a, b)) (omega (arith, b, l)))

@@ -1,5 +1,5 @@
 -- What a visit keeps: the order of the work, and what was so before it.
-use Rattle.std.proofs.Common.{◌≡◌, ℕ, Bool, true, ltb, List, length, Some, None, Option, sym, refl, subst}
+use Rattle.std.proofs.Common.{◌≡◌, ℕ, Bool, true, ltb, List, length, Some, None, Option, Ok, Err, Result, OnOk, sym, refl, subst}
 use Rattle.std.specs.List.{slice_get}
 use Rattle.std.proofs.lemmas.Bool.{cond_both}
 use Rattle.sheet.specs.declared.kept.Sheet.{Sheet}
@@ -9,6 +9,7 @@ use Rattle.value.specs.declared.parts.End.TheVariants.{Unknown, On, Last}
 use Rattle.meaning.specs.declared.parts.Duty.{Duty}
 use Rattle.meaning.specs.declared.parts.Opening.{Opening}
 use Rattle.meaning.specs.declared.parts.Span.{Span}
+use Rattle.meaning.specs.declared.parts.Stop.{Stop}
 use Rattle.meaning.specs.declared.parts.Stop.TheVariants.{Crowded}
 use Rattle.meaning.specs.Intervals.{Setting, statement_at}
 use Rattle.meaning.specs.Work.{Work, Outcome, stops, goes, unchanged, also, and_then, has_duty}
@@ -21,6 +22,7 @@ use Rattle.meaning.proofs.Moves.{Moves, moves_on, Any}
 use Rattle.meaning.proofs.Grown.{rule_moves, opened_moves}
 use Rattle.meaning.proofs.Kept.{OfWork, kept_visit}
 use Rattle.meaning.proofs.Later.{later_refl, later_kept}
+use Rattle.board.specs.Answers.{told}
 use Rattle.board.specs.Held.{sheet_of}
 
 -- a sheet keeps the limits
@@ -30,6 +32,11 @@ limits_of s = record { counts = s.counts; variables = s.names; expressions = s.o
 -- what moves to a work in order
 tidy_of : {S : Setting} {w u : Work} {c : Bool} → Moves S w Any (goes u c) → Tidy S u
 tidy_of (moves_on g l t p) = t
+
+-- what an answer of `Ok` says of the work that it leaves
+pub told_ok : (r : Result Bool Stop) (u : Work) (o : Outcome) (P : Type 0) → told r u ≡ o → ((c : Bool) → goes u c ≡ o → P) → OnOk r P
+told_ok (Ok c) u o P e f = f c e
+told_ok (Err s) u o P e f = tt
 
 -- a visit to a duty of the list keeps the work in order
 pub visit_tidy : (S : Setting) → Limits S.sheet → (k i : ℕ) (d : Duty) (w u : Work) (c : Bool) → Tidy S w → slice_get w.duties i ≡ Some d → goes u c ≡ visit S k d w → Tidy S u

@@ -1,8 +1,7 @@
 // Visits to the duties of a state.
-ghost use Rattle.std.specs.Prelude.{◌≡◌, length, Some as some, OnOk, slice_index_or};
-ghost use Rattle.std.specs.List.{slice_get};
+ghost use Rattle.std.specs.Prelude.{◌≡◌, not, length, OnOk, slice_index_or};
 ghost use Rattle.sheet.specs.declared.parts.Statement.TheVariants.{True as true_so};
-ghost use Rattle.meaning.specs.Intervals.{under, statement_at};
+ghost use Rattle.meaning.specs.Intervals.{under};
 ghost use Rattle.meaning.specs.Order.{Tidy, Later};
 ghost use Rattle.meaning.specs.Passes.{pass_fuel, visit_duties};
 ghost use Rattle.meaning.specs.Rules.{visit};
@@ -10,72 +9,64 @@ ghost use Rattle.board.specs.Answers.{told};
 ghost use Rattle.board.specs.Held.{held, sheet_of};
 ghost use Rattle.passes.specs.Marked.{Marked, lasting};
 
+use crate::parts::Pass;
+use crate::visits::{Visits, visit_all};
 use board::Board;
 use feed::Feed;
 use meaning::{Duty, Stop};
-use sheet::{Sheet, Statement};
+use sheet::Statement;
 use value::Memo;
 
-// Whether a statement is an `always`.
-fn is_lasting(sheet: &Sheet, statement: u16) -> bool
-    ensures { result ≡ lasting (slice_index_or sheet.now.tables.statements.items statement true_so) }
-{
-    matches!(
-        sheet.tables.statements.get(usize::from(statement)),
-        Some(Statement::Always(_)),
-    )
+// A pass visits this state's duties.
+impl<'a, F: Feed> Visits<Duty> for Pass<'a, F> {
+    ghost setting = { λ p. under (sheet_of p.sheet.now) (F.Feed.readings p.feed.now) };
+
+    ghost items = { λ w. w.duties };
+
+    ghost most = { 512 };
+
+    ghost visited = { λ p d. visit (under (sheet_of p.sheet.now) (F.Feed.readings p.feed.now)) p.state d };
+
+    // An `always` does one thing at once and one when its span is on.
+    ghost spent = { λ p d. not (lasting (slice_index_or p.sheet.now.tables.statements.items d.statement true_so)) };
+
+    ghost stays = { λ w u l i t e. l.duties i t e };
+
+    fn item(&self, board: &Board, place: usize) -> Option<Duty> {
+        board.duty(place)
+    }
+
+    fn is_spent(&self, item: &Duty) -> bool {
+        !matches!(
+            self.sheet
+                .tables
+                .statements
+                .get(usize::from(item.statement)),
+            Some(Statement::Always(_)),
+        )
+    }
+
+    fn visit(&self, board: &mut Board, memo: &mut Memo, item: Duty) -> Result<bool, Stop> {
+        rules::visit_duty(board, self.sheet, self.feed, memo, self.state, item)
+    }
 }
 
-// The visit to the duty at a place. It is left out where the place is marked, since it would change nothing.
-fn visit_at<F: Feed>(
-    board: &mut Board,
-    sheet: &Sheet,
-    feed: &F,
-    memo: &mut Memo,
-    marks: &mut [bool],
-    state: u32,
-    place: usize,
-    duty: Duty,
-) -> Result<bool, Stop>
-    requires tidy { Tidy (under (sheet_of sheet.now) (F.Feed.readings feed.now)) (held board.old) }
-    requires there { slice_get (held board.old).duties place ≡ some duty }
-    requires marked { Marked (under (sheet_of sheet.now) (F.Feed.readings feed.now)) state (held board.old) marks.old }
-    requires long { length marks.old ≡ 512 }
-    ensures visited { told result (held board.new) ≡ visit (under (sheet_of sheet.now) (F.Feed.readings feed.now)) state duty (held board.old) }
-    ensures marked { OnOk result (Marked (under (sheet_of sheet.now) (F.Feed.readings feed.now)) state (held board.new) marks.new) }
-{
-    if marks[place] {
-        return Ok(false);
+impl<'a, F: Feed> Pass<'a, F> {
+    // Visits to the duties from first to last, to those that are added meanwhile too.
+    pub(crate) fn visit_duties(
+        &self,
+        board: &mut Board,
+        memo: &mut Memo,
+        marks: &mut [bool],
+    ) -> Result<bool, Stop>
+        requires tidy { Tidy (under (sheet_of self.now.sheet.now) (F.Feed.readings self.now.feed.now)) (held board.old) }
+        requires marked { Marked (under (sheet_of self.now.sheet.now) (F.Feed.readings self.now.feed.now)) self.now.state (held board.old) marks.old }
+        requires long { length marks.old ≡ 512 }
+        ensures visited { told result (held board.new) ≡ visit_duties (under (sheet_of self.now.sheet.now) (F.Feed.readings self.now.feed.now)) self.now.state pass_fuel 0 (held board.old) }
+        ensures marked { OnOk result (Marked (under (sheet_of self.now.sheet.now) (F.Feed.readings self.now.feed.now)) self.now.state (held board.new) marks.new) }
+        ensures tidy { OnOk result (Tidy (under (sheet_of self.now.sheet.now) (F.Feed.readings self.now.feed.now)) (held board.new)) }
+        ensures later { OnOk result (Later (held board.old) (held board.new)) }
+    {
+        visit_all::<Duty, Pass<'a, F>>(self, board, memo, marks)
     }
-    let changed = rules::visit_duty(board, sheet, feed, memo, state, duty)?;
-    if changed && !is_lasting(sheet, duty.statement) {
-        marks[place] = true;
-    }
-    Ok(changed)
-}
-
-// Visits to the duties from first to last, to those that are added meanwhile too.
-pub(crate) fn visit_duties<F: Feed>(
-    board: &mut Board,
-    sheet: &Sheet,
-    feed: &F,
-    memo: &mut Memo,
-    marks: &mut [bool],
-    state: u32,
-) -> Result<bool, Stop>
-    requires tidy { Tidy (under (sheet_of sheet.now) (F.Feed.readings feed.now)) (held board.old) }
-    requires marked { Marked (under (sheet_of sheet.now) (F.Feed.readings feed.now)) state (held board.old) marks.old }
-    requires long { length marks.old ≡ 512 }
-    ensures visited { told result (held board.new) ≡ visit_duties (under (sheet_of sheet.now) (F.Feed.readings feed.now)) state pass_fuel 0 (held board.old) }
-    ensures marked { OnOk result (Marked (under (sheet_of sheet.now) (F.Feed.readings feed.now)) state (held board.new) marks.new) }
-    ensures tidy { OnOk result (Tidy (under (sheet_of sheet.now) (F.Feed.readings feed.now)) (held board.new)) }
-    ensures later { OnOk result (Later (held board.old) (held board.new)) }
-{
-    let mut changed = false;
-    let mut i = 0;
-    while let Some(duty) = board.duty(i) {
-        changed |= visit_at(board, sheet, feed, memo, marks, state, i, duty)?;
-        i += 1;
-    }
-    Ok(changed)
 }

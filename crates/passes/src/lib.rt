@@ -3,7 +3,9 @@
 
 mod duties;
 mod marks;
+mod parts;
 mod settling;
 mod spans;
+mod visits;
 
 pub use crate::marks::Marks;

@@ -1,56 +1,63 @@
 // Visits to the spans of a state.
-ghost use Rattle.std.specs.Prelude.{◌≡◌, length, Some as some, OnOk};
-ghost use Rattle.std.specs.List.{slice_get};
-ghost use Rattle.meaning.specs.Intervals.{Setting};
+ghost use Rattle.std.specs.Prelude.{◌≡◌, true, length, OnOk};
+ghost use Rattle.meaning.specs.Intervals.{under};
 ghost use Rattle.meaning.specs.Order.{Tidy, Later};
 ghost use Rattle.meaning.specs.Passes.{visit_spans};
 ghost use Rattle.meaning.specs.Rules.{visit_span};
 ghost use Rattle.board.specs.Answers.{told};
-ghost use Rattle.board.specs.Held.{held};
+ghost use Rattle.board.specs.Held.{held, sheet_of};
 ghost use Rattle.passes.specs.Marked.{MarkedSpans};
 
+use crate::parts::Pass;
+use crate::visits::{Visits, visit_all};
 use board::Board;
+use feed::Feed;
 use meaning::{Span, Stop};
+use value::Memo;
 
-// The visit to the span at a place. It is left out where the place is marked, since it would change nothing.
-fn visit_span_at(
-    board: &mut Board,
-    marks: &mut [bool],
-    place: usize,
-    span: Span,
-) -> Result<bool, Stop>
-    requires tidy { (S : Setting) × Tidy S (held board.old) }
-    requires there { slice_get (held board.old).spans place ≡ some span }
-    requires marked { MarkedSpans (held board.old) marks.old }
-    requires long { length marks.old ≡ 64 }
-    ensures visited { told result (held board.new) ≡ visit_span span (held board.old) }
-    ensures marked { OnOk result (MarkedSpans (held board.new) marks.new) }
-{
-    if marks[place] {
-        return Ok(false);
+// A pass visits the spans that run.
+impl<'a, F: Feed> Visits<Span> for Pass<'a, F> {
+    ghost setting = { λ p. under (sheet_of p.sheet.now) (F.Feed.readings p.feed.now) };
+
+    ghost items = { λ w. w.spans };
+
+    ghost most = { 64 };
+
+    ghost visited = { λ p t. visit_span t };
+
+    ghost spent = { λ p t. true };
+
+    ghost stays = { λ w u l i t e. l.spans i t e };
+
+    fn item(&self, board: &Board, place: usize) -> Option<Span> {
+        board.span(place)
     }
-    let changed = rules::visit_span(board, span)?;
-    if changed {
-        marks[place] = true;
+
+    fn is_spent(&self, _item: &Span) -> bool {
+        true
     }
-    Ok(changed)
+
+    fn visit(&self, board: &mut Board, _memo: &mut Memo, item: Span) -> Result<bool, Stop> {
+        rules::visit_span(board, item)
+    }
 }
 
-// Visits to the spans in the order of opening.
-pub(crate) fn visit_spans(board: &mut Board, marks: &mut [bool]) -> Result<bool, Stop>
-    requires tidy { (S : Setting) × Tidy S (held board.old) }
-    requires marked { MarkedSpans (held board.old) marks.old }
-    requires long { length marks.old ≡ 64 }
-    ensures visited { told result (held board.new) ≡ visit_spans (held board.old).spans (held board.old) }
-    ensures marked { OnOk result (MarkedSpans (held board.new) marks.new) }
-    ensures tidy { OnOk result ((S : Setting) → Tidy S (held board.old) → Tidy S (held board.new)) }
-    ensures later { OnOk result (Later (held board.old) (held board.new)) }
-{
-    let mut changed = false;
-    let mut i = 0;
-    while let Some(span) = board.span(i) {
-        changed |= visit_span_at(board, marks, i, span)?;
-        i += 1;
+impl<'a, F: Feed> Pass<'a, F> {
+    // Visits to the spans in the order of opening.
+    pub(crate) fn visit_spans(
+        &self,
+        board: &mut Board,
+        memo: &mut Memo,
+        marks: &mut [bool],
+    ) -> Result<bool, Stop>
+        requires tidy { Tidy (under (sheet_of self.now.sheet.now) (F.Feed.readings self.now.feed.now)) (held board.old) }
+        requires marked { MarkedSpans (held board.old) marks.old }
+        requires long { length marks.old ≡ 64 }
+        ensures visited { told result (held board.new) ≡ visit_spans (held board.old).spans (held board.old) }
+        ensures marked { OnOk result (MarkedSpans (held board.new) marks.new) }
+        ensures tidy { OnOk result (Tidy (under (sheet_of self.now.sheet.now) (F.Feed.readings self.now.feed.now)) (held board.new)) }
+        ensures later { OnOk result (Later (held board.old) (held board.new)) }
+    {
+        visit_all::<Span, Pass<'a, F>>(self, board, memo, marks)
     }
-    Ok(changed)
 }

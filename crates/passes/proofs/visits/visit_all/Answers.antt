@@ -1,0 +1,46 @@
+-- Each visit is the next one, and keeps what the invariant says; the places end with the list.
+use Rattle.std.proofs.Common.{◌<◌, suc, sym, arith}
+use Rattle.std.proofs.lemmas.Option.{slice_get_within}
+use Rattle.std.proofs.lemmas.Result.{err_from_is_err_and}
+use Rattle.meaning.proofs.Later.{later_trans}
+use Rattle.board.specs.Held.{held}
+use Rattle.passes.specs.Walks.{visit_from}
+use Rattle.passes.proofs.Walking.{from_next, from_stop, from_over}
+use Rattle.passes.proofs.visits.visit_all.Goals as goal
+
+pub returns-in_err-changed-clause-visited : goal.returns-in_err-changed-clause-visited
+returns-in_err-changed-clause-visited g c =
+    let V = g.P.Visits in
+    let v = V.visited c.args.pass.now in
+    let l = c.loop-item in
+    let h : l.place < suc V.most = omega (arith, l.invariant.within) in
+    let p = err_from_is_err_and c.from_residual.result c.from_residual.ensures.1 in
+    rw (p.1, p.2) (from_stop V.items v (suc V.most) l.place c.in-Some.item (held l.board) c.in_err-changed.field-0.0 l.changed (visit_from V.items v (suc V.most) 0 (held c.args.board.now)) h (sym c.in-Some.ensures.found) c.in_err-changed.ensures.visited l.invariant.going)
+
+pub loop-item-smaller : goal.loop-item-smaller
+loop-item-smaller g c =
+    let l = c.loop-item in
+    omega (arith, slice_get_within (g.P.Visits.items (held l.board)) l.place c.in-Some.item (sym c.in-Some.ensures.found), c.item.ensures.few)
+
+pub loop-item-preserved : goal.loop-item-preserved
+loop-item-preserved g c =
+    let V = g.P.Visits in
+    let v = V.visited c.args.pass.now in
+    let l = c.loop-item in
+    let e = c.in_ok-changed.ensures in
+    let h : l.place < suc V.most = omega (arith, l.invariant.within) in
+    record {
+      going = from_next V.items v (suc V.most) l.place c.in-Some.item (held l.board) (held c.visit_at.new.board) l.changed c.in_ok-changed.field-0 (visit_from V.items v (suc V.most) 0 (held c.args.board.now)) h (sym c.in-Some.ensures.found) e.visited l.invariant.going;
+      marked = e.marked;
+      tidy = e.tidy;
+      later = later_trans l.invariant.later e.later;
+      within = omega (arith, slice_get_within (V.items (held l.board)) l.place c.in-Some.item (sym c.in-Some.ensures.found), c.item.ensures.few);
+    }
+
+pub returns-clause-visited : goal.returns-clause-visited
+returns-clause-visited g c =
+    let V = g.P.Visits in
+    let v = V.visited c.args.pass.now in
+    let l = c.loop-item in
+    let h : l.place < suc V.most = omega (arith, l.invariant.within) in
+    from_over V.items v (suc V.most) l.place (held l.board) l.changed (visit_from V.items v (suc V.most) 0 (held c.args.board.now)) h (sym c.in_default.ensures.found) l.invariant.going

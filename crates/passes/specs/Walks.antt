@@ -1,0 +1,20 @@
+-- Visits to the items of one list of a state's work, one after another, and marks on items. Assumes nothing.
+use Rattle.std.specs.Prelude.{◌≡◌, ℕ, zero, suc, Bool, true, false, List, Some, None, Option, slice_index_or}
+use Rattle.std.specs.List.{slice_get}
+use Rattle.meaning.specs.declared.parts.Stop.TheVariants.{Crowded}
+use Rattle.meaning.specs.Work.{Work, Outcome, stops, goes, unchanged, and_then}
+use Rattle.meaning.specs.Order.{Later}
+
+-- a visit to an item, where there is one, and then the rest
+abbrev pub visit_one : {T : Type 0} → (T → Work → Outcome) → Option T → (Work → Outcome) → Work → Outcome
+visit_one v None rest w = unchanged w
+visit_one v (Some t) rest w = and_then (v t w) rest
+
+-- visits to the items from place i on, to those that are added meanwhile too; n is one more than the places that are left
+abbrev pub visit_from : {T : Type 0} → (Work → List T) → (T → Work → Outcome) → ℕ → ℕ → Work → Outcome
+visit_from items v zero i w = stops Crowded
+visit_from items v (suc n) i w = visit_one v (slice_get (items w) i) (visit_from items v n (suc i)) w
+
+-- each mark stands at an item that is visited in vain from now on, to the end of the state
+abbrev pub MarkedBy : {T : Type 0} → (Work → List T) → (T → Work → Outcome) → Work → List Bool → Type 0
+MarkedBy {T} items v w marks = (i : ℕ) → slice_index_or marks i false ≡ true → (t : T) × (slice_get (items w) i ≡ Some t) × ((u : Work) → Later w u → v t u ≡ goes u false)

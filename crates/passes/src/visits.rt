@@ -1,0 +1,104 @@
+// What a pass visits, and the visits from first to last.
+ghost use Rattle.std.specs.Prelude.{◌≡◌, ℕ, suc, ◌≤◌, ◌<◌, Bool, true, false, List, length, Ok as ok, Some as some, OnOk};
+ghost use Rattle.std.specs.List.{slice_get};
+ghost use Rattle.meaning.specs.Intervals.{Setting};
+ghost use Rattle.meaning.specs.Order.{Tidy, Later};
+ghost use Rattle.meaning.specs.Work.{Work, Outcome, goes};
+ghost use Rattle.board.specs.Answers.{told};
+ghost use Rattle.board.specs.Held.{held};
+ghost use Rattle.passes.specs.Walks.{visit_from, MarkedBy};
+
+use board::Board;
+use meaning::Stop;
+use value::Memo;
+
+// Visits to the items of one list of a state's work.
+pub(crate) trait Visits<T> {
+    // The setting in which the state lies.
+    ghost setting: { Self → Setting };
+
+    // The list of a work.
+    ghost items: { Work → List T };
+
+    // The most items that it has.
+    ghost most: { ℕ };
+
+    // What the visit to an item makes of a work.
+    ghost visited: { Self → T → Work → Outcome };
+
+    // Whether a visit to the item that changes something is the last that does, in this state.
+    ghost spent: { Self → T → Bool };
+
+    // The item at a place, or none past the end.
+    fn item(&self, board: &Board, place: usize) -> Option<T>
+        ensures found { result ≡ slice_get (items (held board.now)) place }
+        ensures few { length (items (held board.now)) ≤ most };
+
+    // Whether a visit to the item that changes something is the last that does.
+    fn is_spent(&self, item: &T) -> bool
+        ensures { result ≡ spent self.now item.now };
+
+    // The visit to an item of the list.
+    fn visit(&self, board: &mut Board, memo: &mut Memo, item: T) -> Result<bool, Stop>
+        requires tidy { Tidy (setting self.now) (held board.old) }
+        requires there { (i : ℕ) × (slice_get (items (held board.old)) i ≡ some item) }
+        ensures visited { told result (held board.new) ≡ visited self.now item (held board.old) }
+        ensures tidy { OnOk result (Tidy (setting self.now) (held board.new)) }
+        ensures later { OnOk result (Later (held board.old) (held board.new)) }
+        ensures vain { result ≡ ok true → spent self.now item ≡ true → (v : Work) → Later (held board.new) v → visited self.now item v ≡ goes v false };
+
+    // An item keeps its place, to the end of the state.
+    ghost stays: { (w u : Work) → Later w u → (i : ℕ) (t : T) → slice_get (items w) i ≡ some t → slice_get (items u) i ≡ some t };
+}
+
+// The visit to the item at a place. It is left out where the place is marked, since it would change nothing.
+fn visit_at<T: Copy, P: Visits<T>>(
+    pass: &P,
+    board: &mut Board,
+    memo: &mut Memo,
+    marks: &mut [bool],
+    place: usize,
+    item: T,
+) -> Result<bool, Stop>
+    requires tidy { Tidy (P.setting pass.now) (held board.old) }
+    requires there { slice_get (P.items (held board.old)) place ≡ some item }
+    requires marked { MarkedBy P.items (P.visited pass.now) (held board.old) marks.old }
+    requires within { place < length marks.old }
+    ensures visited { told result (held board.new) ≡ P.visited pass.now item (held board.old) }
+    ensures marked { OnOk result (MarkedBy P.items (P.visited pass.now) (held board.new) marks.new) }
+    ensures tidy { OnOk result (Tidy (P.setting pass.now) (held board.new)) }
+    ensures later { OnOk result (Later (held board.old) (held board.new)) }
+{
+    if marks[place] {
+        return Ok(false);
+    }
+    let changed = pass.visit(board, memo, item)?;
+    if changed && pass.is_spent(&item) {
+        marks[place] = true;
+    }
+    Ok(changed)
+}
+
+// Visits to the items from first to last, to those that are added meanwhile too.
+pub(crate) fn visit_all<T: Copy, P: Visits<T>>(
+    pass: &P,
+    board: &mut Board,
+    memo: &mut Memo,
+    marks: &mut [bool],
+) -> Result<bool, Stop>
+    requires tidy { Tidy (P.setting pass.now) (held board.old) }
+    requires marked { MarkedBy P.items (P.visited pass.now) (held board.old) marks.old }
+    requires long { length marks.old ≡ P.most }
+    ensures visited { told result (held board.new) ≡ visit_from P.items (P.visited pass.now) (suc P.most) 0 (held board.old) }
+    ensures marked { OnOk result (MarkedBy P.items (P.visited pass.now) (held board.new) marks.new) }
+    ensures tidy { OnOk result (Tidy (P.setting pass.now) (held board.new)) }
+    ensures later { OnOk result (Later (held board.old) (held board.new)) }
+{
+    let mut changed = false;
+    let mut place = 0;
+    while let Some(item) = pass.item(board, place) {
+        changed |= visit_at(pass, board, memo, marks, place, item)?;
+        place += 1;
+    }
+    Ok(changed)
+}
