@@ -7,7 +7,6 @@ use Rattle.text.specs.Decimals.{natural_of, number_of}
 use Rattle.sheet.specs.declared.parts.Name.{Name}
 use Rattle.sheet.specs.declared.parts.Expression.{Expression}
 use Rattle.sheet.specs.declared.parts.Expression.TheVariants.{Num}
-use Rattle.sheet.specs.declared.parts.Statement.{Statement}
 use Rattle.sheet.specs.Sizes.{size}
 use Rattle.sheet.specs.Limits.{name_of, number_of_name, declared}
 use Rattle.lines.specs.declared.items.Fault.{Fault}

@@ -88,11 +88,9 @@ fn upward_from(low: i32, high: i32) -> Result<i32, Fault>
 fn fresh_name(draft: &Draft, word: &[u8]) -> Result<Name, Fault>
     ensures { result ≡ fresh (said draft.now) word.now }
 {
-    let name = sheet::make_name(word).ok_or(Fault::Name(1))?;
-    match sheet::find_variable(&draft.tables.variables, name) {
-        Some(_) => Err(Fault::Name(1)),
-        None => Ok(name),
-    }
+    sheet::make_name(word)
+        .filter(|name| sheet::find_variable(&draft.tables.variables, *name).is_none())
+        .ok_or(Fault::Name(1))
 }
 
 // A `var` line.

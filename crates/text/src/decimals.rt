@@ -12,6 +12,7 @@ pub fn natural(word: &[u8], limit: u32) -> Option<u32>
     if word[0] == b'0' && word.len() > 1 {
         return None;
     }
+    // Casts, which the check shows to lose nothing; `try_from` at the end would have an error to answer that cannot come.
     let mut n = 0u64;
     for digit in word {
         if !digit.is_ascii_digit() {

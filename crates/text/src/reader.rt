@@ -79,6 +79,7 @@ fn find_stop(text: &[u8], stop: u8) -> Option<usize>
 }
 
 // Whether two texts have the same bytes.
+// A name for `==`, which at a byte string literal would need `as_slice` in each place.
 pub fn same(a: &[u8], b: &[u8]) -> bool
     ensures { result ≡ bytes_eq a.now b.now }
 {

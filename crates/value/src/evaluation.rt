@@ -21,6 +21,7 @@ pub fn evaluate(
     ensures total { Total sheet.now values.now end number result }
     ensures bound { Within 1000000000 result }
 {
+    // A cast that widens loses nothing, which the check shows; `usize::from` would say no more, here and below.
     let place = number as usize;
     if place >= sheet.tables.expressions.len() {
         return Some(0);
