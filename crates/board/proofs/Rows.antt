@@ -19,7 +19,15 @@ use Rattle.meaning.specs.Work.{set_at, plain, stops, goes, has_opened}
 use Rattle.meaning.specs.Effects.{with_end, with_span, open_span}
 use Rattle.meaning.specs.Order.{◌∈◌, here, there, Lives}
 use Rattle.board.specs.declared.parts.Row.{Row}
-use Rattle.board.specs.Store.{span_of, ends_of, Store, work, rising, no_row, HasSerial}
+use Rattle.board.specs.Store.{span_of, ends_of, Store, work, rising}
+
+-- what stands for a row that is not there
+abbrev pub no_row : Row
+no_row = record { span = record { serial = 0; opening = None; fresh = false }; end = Unknown }
+
+-- the row at place i has the serial s
+abbrev pub HasSerial : List Row → ℕ → ℕ → Type 0
+HasSerial l i s = (i < length l) × ((get_or l i no_row).span.serial ≡ s)
 
 -- a row with another end
 abbrev pub ended_by : Row → End → Row

@@ -11,8 +11,8 @@ use Rattle.meaning.specs.Work.{plain}
 use Rattle.meaning.specs.Order.{◌∈◌, here, there}
 use Rattle.meaning.specs.Runs.{begun, kept_by, going_on, first_work, next_work}
 use Rattle.board.specs.declared.parts.Row.{Row}
-use Rattle.board.specs.Store.{span_of, ends_of, Store, work, rising, kept_row, kept_rows, no_row}
-use Rattle.board.proofs.Rows.{Rising, rising_nil, rising_cons, rising_of}
+use Rattle.board.specs.Store.{span_of, ends_of, Store, work, rising, kept_row, kept_rows}
+use Rattle.board.proofs.Rows.{no_row, Rising, rising_nil, rising_cons, rising_of}
 
 -- a row as it is kept
 abbrev pub kept : Row → Row

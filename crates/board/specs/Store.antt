@@ -1,5 +1,5 @@
 -- The work that plain tables hold: a list of values, and spans with their ends. Assumes nothing.
-use Rattle.std.specs.Prelude.{◌≡◌, ℕ, suc, ◌<◌, Bool, false, cond, ◌&&◌, List, [], ◌∷◌, map, length, get_or, ℤ, None, Option, ◌==◌, nat_le, slice_index_or}
+use Rattle.std.specs.Prelude.{ℕ, suc, Bool, false, if◌then◌else◌, ◌&&◌, List, [], ◌∷◌, map, ℤ, None, Option, ◌==◌, nat_le, slice_index_or}
 use Rattle.value.specs.declared.parts.End.{End}
 use Rattle.value.specs.declared.parts.End.TheVariants.{Unknown, On, Last}
 use Rattle.meaning.specs.declared.parts.Duty.{Duty}
@@ -14,7 +14,7 @@ span_of r = r.span
 -- the end of the span with serial s, by the rows
 abbrev pub ends_of : List Row → ℕ → End
 ends_of [] s = Unknown
-ends_of (r ∷ l) s = cond (r.span.serial == s) r.end (ends_of l s)
+ends_of (r ∷ l) s = if r.span.serial == s then r.end else ends_of l s
 
 -- what the tables hold
 pub record Store : Type 0 where
@@ -43,11 +43,3 @@ kept_row Last r l = l
 abbrev pub kept_rows : List Row → List Row
 kept_rows [] = []
 kept_rows (r ∷ l) = kept_row r.end r (kept_rows l)
-
--- what stands for a row that is not there
-abbrev pub no_row : Row
-no_row = record { span = record { serial = 0; opening = None; fresh = false }; end = Unknown }
-
--- the row at place i has the serial s
-abbrev pub HasSerial : List Row → ℕ → ℕ → Type 0
-HasSerial l i s = (i < length l) × ((get_or l i no_row).span.serial ≡ s)

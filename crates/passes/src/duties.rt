@@ -1,12 +1,12 @@
 // Visits to the duties of a state.
 ghost use Rattle.std.specs.Prelude.{◌≡◌, not, length, OnOk, slice_index_or};
 ghost use Rattle.sheet.specs.declared.parts.Statement.TheVariants.{True as true_so};
-ghost use Rattle.meaning.specs.Intervals.{under};
 ghost use Rattle.meaning.specs.Order.{Tidy, Later};
 ghost use Rattle.meaning.specs.Passes.{pass_fuel, visit_duties};
 ghost use Rattle.meaning.specs.Rules.{visit};
 ghost use Rattle.board.specs.Answers.{told};
-ghost use Rattle.board.specs.Held.{held, sheet_of};
+ghost use Rattle.board.specs.Held.{held};
+ghost use Rattle.passes.specs.Passing.{setting_of};
 ghost use Rattle.passes.specs.Marked.{Marked, lasting};
 
 use crate::parts::Pass;
@@ -19,13 +19,13 @@ use value::Memo;
 
 // A pass visits this state's duties.
 impl<'a, F: Feed> Visits<Duty> for Pass<'a, F> {
-    ghost setting = { λ p. under (sheet_of p.sheet.now) (F.Feed.readings p.feed.now) };
+    ghost setting = { setting_of F.Feed.readings };
 
     ghost items = { λ w. w.duties };
 
     ghost most = { 512 };
 
-    ghost visited = { λ p d. visit (under (sheet_of p.sheet.now) (F.Feed.readings p.feed.now)) p.state d };
+    ghost visited = { λ p d. visit (setting_of F.Feed.readings p) p.state d };
 
     // An `always` does one thing at once and one when its span is on.
     ghost spent = { λ p d. not (lasting (slice_index_or p.sheet.now.tables.statements.items d.statement true_so)) };
@@ -59,12 +59,12 @@ impl<'a, F: Feed> Pass<'a, F> {
         memo: &mut Memo,
         marks: &mut [bool],
     ) -> Result<bool, Stop>
-        requires tidy { Tidy (under (sheet_of self.now.sheet.now) (F.Feed.readings self.now.feed.now)) (held board.old) }
-        requires marked { Marked (under (sheet_of self.now.sheet.now) (F.Feed.readings self.now.feed.now)) self.now.state (held board.old) marks.old }
+        requires tidy { Tidy (setting_of F.Feed.readings self.now) (held board.old) }
+        requires marked { Marked (setting_of F.Feed.readings self.now) self.now.state (held board.old) marks.old }
         requires long { length marks.old ≡ 512 }
-        ensures visited { told result (held board.new) ≡ visit_duties (under (sheet_of self.now.sheet.now) (F.Feed.readings self.now.feed.now)) self.now.state pass_fuel 0 (held board.old) }
-        ensures marked { OnOk result (Marked (under (sheet_of self.now.sheet.now) (F.Feed.readings self.now.feed.now)) self.now.state (held board.new) marks.new) }
-        ensures tidy { OnOk result (Tidy (under (sheet_of self.now.sheet.now) (F.Feed.readings self.now.feed.now)) (held board.new)) }
+        ensures visited { told result (held board.new) ≡ visit_duties (setting_of F.Feed.readings self.now) self.now.state pass_fuel 0 (held board.old) }
+        ensures marked { OnOk result (Marked (setting_of F.Feed.readings self.now) self.now.state (held board.new) marks.new) }
+        ensures tidy { OnOk result (Tidy (setting_of F.Feed.readings self.now) (held board.new)) }
         ensures later { OnOk result (Later (held board.old) (held board.new)) }
     {
         visit_all::<Duty, Pass<'a, F>>(self, board, memo, marks)

@@ -1,7 +1,6 @@
 // A visit to a span.
 ghost use Rattle.std.specs.Prelude.{◌≡◌};
 ghost use Rattle.meaning.specs.Order.{Lives, Nested};
-ghost use Rattle.meaning.specs.Work.{and_then};
 ghost use Rattle.meaning.specs.Rules.{take_last, hand_on, visit_span};
 ghost use Rattle.board.specs.Answers.{told};
 ghost use Rattle.board.specs.Held.{held};
@@ -33,26 +32,17 @@ fn hand_on(board: &mut Board, opening: Opening, serial: u32) -> Result<bool, Sto
     }
 }
 
-// Both, for a span that was opened.
-fn visit_opened(board: &mut Board, opening: Opening, serial: u32) -> Result<bool, Stop>
-    requires own { Lives (held board.old).spans serial }
-    requires outer { Lives (held board.old).spans opening.follower.span }
-    ensures { told result (held board.new) ≡ and_then (take_last ((held board.old).ends opening.follower.span) opening.by serial (held board.old)) (λ u. hand_on (u.ends serial) opening u) }
-{
-    after(
-        take_last(board, opening, serial)?,
-        hand_on(board, opening, serial),
-    )
-}
-
 // A visit to a span. The whole interval has nothing around it.
 pub fn visit_span(board: &mut Board, span: Span) -> Result<bool, Stop>
     requires own { Lives (held board.old).spans span.serial }
     requires outer { Nested (held board.old).spans span.serial span.opening }
     ensures { told result (held board.new) ≡ visit_span span (held board.old) }
 {
-    match span.opening {
-        Some(opening) => visit_opened(board, opening, span.serial),
-        None => Ok(false),
-    }
+    let Some(opening) = span.opening else {
+        return Ok(false);
+    };
+    after(
+        take_last(board, opening, span.serial)?,
+        hand_on(board, opening, span.serial),
+    )
 }

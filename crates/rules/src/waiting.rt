@@ -100,9 +100,9 @@ impl<'a, F: Feed> Visit<'a, F> {
         if let Some(v) = self.duty.number {
             return board.give(self.sheet, self.duty.statement, x, v);
         }
-        let End::On = board.end_of(self.duty.span) else {
+        if board.end_of(self.duty.span) != End::On {
             return Ok(false);
-        };
+        }
         let Some(v) = self.number(board, memo, e) else {
             return Ok(false);
         };
@@ -151,6 +151,7 @@ impl<'a, F: Feed> Visit<'a, F> {
         requires variable { x < vec_len self.now.sheet.now.tables.variables }
         ensures { told result (held board.new) ≡ ruled F.Feed.readings self.now (request_so x) (held board.old) }
     {
+        // `as` stays: Rust has no `From` from u32 to usize, and `try_from` would add an error that cannot come.
         let Some(v) = self.feed.reading(usize::from(x), self.state as usize) else {
             return Ok(false);
         };

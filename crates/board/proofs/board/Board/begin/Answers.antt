@@ -2,7 +2,7 @@
 use Rattle.std.proofs.Common.{List, [], ◌∷◌, ◌++◌, ap, ◌∙◌}
 use Rattle.meaning.specs.declared.parts.Duty.{Duty}
 use Rattle.board.specs.declared.parts.Row.{Row}
-use Rattle.board.specs.Store.{no_row}
+use Rattle.board.proofs.Rows.{no_row}
 use Rattle.board.proofs.Turned.{begin_means}
 use Rattle.board.proofs.board.Board.begin.Goals as goal
 
