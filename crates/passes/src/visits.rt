@@ -95,6 +95,7 @@ pub(crate) fn visit_all<T: Copy, P: Visits<T>>(
     ensures later { OnOk result (Later (held board.old) (held board.new)) }
 {
     let mut changed = false;
+    // No `for` over the places: the list may grow, and only the list itself says that no item is left.
     let mut place = 0;
     while let Some(item) = pass.item(board, place) {
         changed |= visit_at(pass, board, memo, marks, place, item)?;
