@@ -19,7 +19,8 @@ use value::Memo;
 
 // A pass visits this state's duties.
 impl<'a, F: Feed> Visits<Duty> for Pass<'a, F> {
-    ghost setting = { setting_of F.Feed.readings };
+    // The sheet and the feed make the setting.
+    ghost within = { λ p S. S ≡ setting_of F.Feed.readings p };
 
     ghost items = { λ w. w.duties };
 

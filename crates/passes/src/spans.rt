@@ -1,11 +1,12 @@
 // Visits to the spans of a state.
 ghost use Rattle.std.specs.Prelude.{◌≡◌, true, length, OnOk};
+ghost use Rattle.std.specs.Bool.{⊤};
+ghost use Rattle.meaning.specs.Intervals.{Setting};
 ghost use Rattle.meaning.specs.Order.{Tidy, Later};
 ghost use Rattle.meaning.specs.Passes.{visit_spans};
 ghost use Rattle.meaning.specs.Rules.{visit_span};
 ghost use Rattle.board.specs.Answers.{told};
 ghost use Rattle.board.specs.Held.{held};
-ghost use Rattle.passes.specs.Passing.{setting_of};
 ghost use Rattle.passes.specs.Marked.{MarkedSpans};
 
 use crate::parts::Pass;
@@ -17,7 +18,8 @@ use value::Memo;
 
 // A pass visits the spans that run.
 impl<'a, F: Feed> Visits<Span> for Pass<'a, F> {
-    ghost setting = { setting_of F.Feed.readings };
+    // A visit to a span is the same in each setting.
+    ghost within = { λ p S. ⊤ };
 
     ghost items = { λ w. w.spans };
 
@@ -50,12 +52,12 @@ impl<'a, F: Feed> Pass<'a, F> {
         memo: &mut Memo,
         marks: &mut [bool],
     ) -> Result<bool, Stop>
-        requires tidy { Tidy (setting_of F.Feed.readings self.now) (held board.old) }
+        requires tidy { (S : Setting) × Tidy S (held board.old) }
         requires marked { MarkedSpans (held board.old) marks.old }
         requires long { length marks.old ≡ 64 }
         ensures visited { told result (held board.new) ≡ visit_spans (held board.old).spans (held board.old) }
         ensures marked { OnOk result (MarkedSpans (held board.new) marks.new) }
-        ensures tidy { OnOk result (Tidy (setting_of F.Feed.readings self.now) (held board.new)) }
+        ensures tidy { OnOk result ((S : Setting) → Tidy S (held board.old) → Tidy S (held board.new)) }
         ensures later { OnOk result (Later (held board.old) (held board.new)) }
     {
         visit_all::<Span, Pass<'a, F>>(self, board, memo, marks)

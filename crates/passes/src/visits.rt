@@ -14,8 +14,8 @@ use value::Memo;
 
 // Visits to the items of one list of a state's work.
 pub(crate) trait Visits<T> {
-    // The setting in which the state lies.
-    ghost setting: { Self → Setting };
+    // In which settings the visits are.
+    ghost within: { Self → Setting → Type 0 };
 
     // The list of a work.
     ghost items: { Work → List T };
@@ -40,10 +40,10 @@ pub(crate) trait Visits<T> {
 
     // The visit to an item of the list.
     fn visit(&self, board: &mut Board, memo: &mut Memo, item: T) -> Result<bool, Stop>
-        requires tidy { Tidy (setting self.now) (held board.old) }
+        requires tidy { (S : Setting) × within self.now S × Tidy S (held board.old) }
         requires there { (i : ℕ) × (slice_get (items (held board.old)) i ≡ some item) }
         ensures visited { told result (held board.new) ≡ visited self.now item (held board.old) }
-        ensures tidy { OnOk result (Tidy (setting self.now) (held board.new)) }
+        ensures tidy { OnOk result ((S : Setting) → within self.now S → Tidy S (held board.old) → Tidy S (held board.new)) }
         ensures later { OnOk result (Later (held board.old) (held board.new)) }
         ensures vain { result ≡ ok true → spent self.now item ≡ true → (v : Work) → Later (held board.new) v → visited self.now item v ≡ goes v false };
 
@@ -60,13 +60,13 @@ fn visit_at<T: Copy, P: Visits<T>>(
     place: usize,
     item: T,
 ) -> Result<bool, Stop>
-    requires tidy { Tidy (P.setting pass.now) (held board.old) }
+    requires tidy { (S : Setting) × P.within pass.now S × Tidy S (held board.old) }
     requires there { slice_get (P.items (held board.old)) place ≡ some item }
     requires marked { MarkedBy P.items (P.visited pass.now) (held board.old) marks.old }
-    requires within { place < length marks.old }
+    requires inside { place < length marks.old }
     ensures visited { told result (held board.new) ≡ P.visited pass.now item (held board.old) }
     ensures marked { OnOk result (MarkedBy P.items (P.visited pass.now) (held board.new) marks.new) }
-    ensures tidy { OnOk result (Tidy (P.setting pass.now) (held board.new)) }
+    ensures tidy { OnOk result ((S : Setting) → P.within pass.now S → Tidy S (held board.old) → Tidy S (held board.new)) }
     ensures later { OnOk result (Later (held board.old) (held board.new)) }
 {
     if marks[place] {
@@ -86,15 +86,16 @@ pub(crate) fn visit_all<T: Copy, P: Visits<T>>(
     memo: &mut Memo,
     marks: &mut [bool],
 ) -> Result<bool, Stop>
-    requires tidy { Tidy (P.setting pass.now) (held board.old) }
+    requires tidy { (S : Setting) × P.within pass.now S × Tidy S (held board.old) }
     requires marked { MarkedBy P.items (P.visited pass.now) (held board.old) marks.old }
     requires long { length marks.old ≡ P.most }
     ensures visited { told result (held board.new) ≡ visit_from P.items (P.visited pass.now) (suc P.most) 0 (held board.old) }
     ensures marked { OnOk result (MarkedBy P.items (P.visited pass.now) (held board.new) marks.new) }
-    ensures tidy { OnOk result (Tidy (P.setting pass.now) (held board.new)) }
+    ensures tidy { OnOk result ((S : Setting) → P.within pass.now S → Tidy S (held board.old) → Tidy S (held board.new)) }
     ensures later { OnOk result (Later (held board.old) (held board.new)) }
 {
     let mut changed = false;
+    // No `for` over the places: the list may grow, and only the list itself says that no item is left.
     let mut place = 0;
     while let Some(item) = pass.item(board, place) {
         changed |= visit_at(pass, board, memo, marks, place, item)?;

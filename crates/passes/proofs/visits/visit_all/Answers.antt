@@ -17,6 +17,9 @@ returns-in_err-changed-clause-visited g c =
     let p = err_from_is_err_and c.from_residual.result c.from_residual.ensures.1 in
     rw (p.1, p.2) (from_stop V.items v (suc V.most) l.place c.in-Some.item (held l.board) c.in_err-changed.field-0.0 l.changed (visit_from V.items v (suc V.most) 0 (held c.args.board.now)) h (sym c.in-Some.ensures.found) c.in_err-changed.ensures.visited l.invariant.going)
 
+pub visit_at-requires-clause-tidy : goal.visit_at-requires-clause-tidy
+visit_at-requires-clause-tidy g c = let t = c.requires.tidy in (t.0, t.1, c.loop-item.invariant.tidy t.0 t.1 t.2)
+
 pub loop-item-smaller : goal.loop-item-smaller
 loop-item-smaller g c =
     let l = c.loop-item in
@@ -32,7 +35,7 @@ loop-item-preserved g c =
     record {
       going = from_next V.items v (suc V.most) l.place c.in-Some.item (held l.board) (held c.visit_at.new.board) l.changed c.in_ok-changed.field-0 (visit_from V.items v (suc V.most) 0 (held c.args.board.now)) h (sym c.in-Some.ensures.found) e.visited l.invariant.going;
       marked = e.marked;
-      tidy = e.tidy;
+      tidy = λ S m t. e.tidy S m (l.invariant.tidy S m t);
       later = later_trans l.invariant.later e.later;
       within = omega (arith, slice_get_within (V.items (held l.board)) l.place c.in-Some.item (sym c.in-Some.ensures.found), c.item.ensures.few);
     }

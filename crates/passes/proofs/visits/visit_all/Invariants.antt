@@ -1,4 +1,5 @@
 use Rattle.std.proofs.Common.{◌≡◌, suc, ◌-◌, ◌≤◌}
+use Rattle.meaning.specs.Intervals.{Setting}
 use Rattle.meaning.specs.Order.{Tidy, Later}
 use Rattle.meaning.specs.Work.{also}
 use Rattle.board.specs.Held.{held}
@@ -12,7 +13,7 @@ invariant-loop-item g l =
     record {
       going : also l.changed (visit_from V.items (V.visited l.pass) (suc V.most - l.place) l.place (held l.board)) ≡ visit_from V.items (V.visited l.pass) (suc V.most) 0 (held l.initial.board);
       marked : MarkedBy V.items (V.visited l.pass) (held l.board) l.marks;
-      tidy : Tidy (V.setting l.pass) (held l.board);
+      tidy : (S : Setting) → V.within l.pass S → Tidy S (held l.initial.board) → Tidy S (held l.board);
       later : Later (held l.initial.board) (held l.board);
       within : l.place ≤ V.most;
     }
