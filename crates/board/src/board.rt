@@ -12,6 +12,7 @@ pub const MOST_DUTIES: usize = 512;
 pub const MOST_SPANS: usize = 64;
 
 // The work of one state: the variables' numbers, the spans with their ends, this state's duties and those carried to the next.
+// An array, and lists that are reserved once: nothing allocates after a start.
 // Clauses read that work by `held`, and not as the board's model: a work has functions in it, and a model's value may have none.
 #[derive(Drop)]
 pub struct Board {

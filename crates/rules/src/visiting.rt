@@ -20,6 +20,7 @@ use value::{End, Memo};
 
 impl<'a, F: Feed> Visit<'a, F> {
     // The rule of a statement that keeps its rules.
+    // A `match`, and no table of functions: an arm a statement is what the rules are.
     fn rule_of(
         &self,
         board: &mut Board,

@@ -1,4 +1,5 @@
 // The rules that wait for a number.
+// Three of them ask that their variable is one of the sheet's: a word for it would be no shorter.
 ghost use Rattle.std.specs.Prelude.{◌≡◌, ◌<◌, vec_len};
 ghost use Rattle.sheet.specs.declared.parts.Statement.TheVariants.{Is as is_so, If as if_so, Halt as halt_so, Len as len_so, Gets as gets_so, For as for_so, While as while_so, Request as request_so};
 ghost use Rattle.value.specs.Values.{known_at};
