@@ -2,8 +2,6 @@
 use Rattle.std.specs.Prelude.{ℕ, Bool, ◌&&◌, List, ℤ, Option, ◌==◌}
 use Rattle.std.specs.List.{find}
 use Rattle.std.specs.Option.{option_map}
-use Rattle.std.specs.Ordering.{nat_cmp, on, then_cmp}
-use Rattle.std.specs.declared.cmp.Ordering.{Ordering}
 use Rattle.feed.specs.declared.list.Reading.{Reading}
 use Rattle.feed.specs.Readings.{in_range}
 
@@ -18,7 +16,3 @@ first rs variable state = option_map (λ (r : Reading). r.number) (find (matches
 -- what a list of records reads: the first record counts, and one outside the ranges never does
 abbrev pub listed : List Reading → ℕ → ℕ → Option ℤ
 listed rs variable state = in_range variable state (first rs variable state)
-
--- records by their states, and by their variables where the states are equal
-abbrev pub by_reading : Reading → Reading → Ordering
-by_reading = then_cmp (on (λ (r : Reading). r.state) nat_cmp) (on (λ (r : Reading). r.variable) nat_cmp)

@@ -5,8 +5,8 @@ ghost use Rattle.feed.specs.Lists.{listed};
 
 use crate::feed::{Feed, STATES, VARIABLES};
 
-// A record: the number that a variable has in a state. Records are in the order of their states, then of their variables, then of their numbers.
-#[derive(Clone, Copy, Debug, PartialEq, Eq, PartialOrd, Ord)]
+// A record: the number that a variable has in a state.
+#[derive(Clone, Copy, Debug, PartialEq, Eq)]
 pub struct Reading {
     pub state: u32,
     pub variable: u32,

@@ -101,7 +101,7 @@ impl<'a> Recorder for TableRecorder<'a> {
         self.room
     }
 
-    // Reads the value in its row.
+    // Reads the value in its row. An `if`, since with `then` the proof does not close.
     fn look(&self, state: usize, variable: usize) -> Option<i64> {
         if state < self.count && variable < self.width {
             Some(self.memory[state * self.width + variable])

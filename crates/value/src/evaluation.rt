@@ -21,8 +21,7 @@ pub fn evaluate(
     ensures total { Total sheet.now values.now end number result }
     ensures bound { Within 1000000000 result }
 {
-    // A cast that widens loses nothing, which the check shows; `usize::from` would say no more, here and below.
-    let place = number as usize;
+    let place = usize::from(number);
     if place >= sheet.tables.expressions.len() {
         return Some(0);
     }
@@ -56,17 +55,17 @@ fn worked(
         return v;
     }
     let v = match sheet.tables.expressions[number] {
-        Expression::Num(c) => Some(c as i64),
-        Expression::Val(x) => fitting(
-            sheet.tables.variables[x as usize],
-            value_at(values, x as usize),
-        ),
+        Expression::Num(c) => Some(i64::from(c)),
+        Expression::Val(x) => {
+            let x = usize::from(x);
+            fitting(sheet.tables.variables[x], value_at(values, x))
+        }
         Expression::Pair(o, a, b) => {
-            let x = worked(sheet, values, end, a as usize, slots);
-            let y = worked(sheet, values, end, b as usize, slots);
+            let x = worked(sheet, values, end, usize::from(a), slots);
+            let y = worked(sheet, values, end, usize::from(b), slots);
             paired(o, x, y)
         }
-        Expression::Not(a) => negated(worked(sheet, values, end, a as usize, slots)),
+        Expression::Not(a) => negated(worked(sheet, values, end, usize::from(a), slots)),
         Expression::Last => ended(end),
     };
     slots[number] = Some(v);

@@ -48,7 +48,7 @@ pub(crate) fn ended(end: End) -> Option<i64>
     }
 }
 
-// Whether a number lies in a variable's range.
+// Whether a number lies in a variable's range. Two comparisons, since with `contains` of the range the proof does not close.
 pub fn in_range(variable: Variable, number: i64) -> bool
     ensures { result ≡ in_range variable number }
 {

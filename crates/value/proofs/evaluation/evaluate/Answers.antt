@@ -1,6 +1,7 @@
 -- What is worked out has all that is promised, and past the end the number is 0.
-use Rattle.std.proofs.Common.{◌≤◌, length, pos, Some, vec_items, sym, arith}
+use Rattle.std.proofs.Common.{◌≤◌, length, pos, Some, vec_items, sym, ap, ◌∙◌, arith}
 use Rattle.value.specs.Values.{known, valued}
+use Rattle.value.specs.Claims.{worth}
 use Rattle.value.proofs.Tables.{table_past}
 use Rattle.value.proofs.Working.{worth_within, worth_total}
 use Rattle.value.proofs.evaluation.evaluate.Goals as goal
@@ -17,7 +18,7 @@ pub returns : goal.returns
 returns c =
     let s = c.args.sheet.now in
     let r = c.worked.result in
-    let a = c.worked.ensures.answer in
+    let a = c.worked.ensures.answer ∙ ap (worth s c.args.values.now c.args.end) c.from-place.ensures in
     record {
       answer = a;
       total = worth_total s c.args.values.now c.args.end c.args.number r a;
