@@ -6,6 +6,7 @@ use crate::parts::LeftOpen;
 
 impl LeftOpen {
     // The published number: that of the variable, or 99 where only the end of a span is unknown.
+    // A method and no `From`, which would not say what is told.
     pub fn number(self) -> u16
         ensures { result ≡ open_number self }
     {

@@ -5,6 +5,7 @@ ghost use Rattle.std.specs.Str.{bytes_eq};
 ghost use Rattle.text.specs.Cut.{PartAt, Handed, KeyAt};
 
 // A text with the place that was reached in it. It hands out lines, keys and words as parts of the text itself.
+// The whole text and a place, and no slice of what is left, since contracts say where in the text a part stands.
 #[derive(Drop)]
 pub struct Reader<'a> {
     pub text: &'a [u8],
