@@ -1,4 +1,4 @@
--- Visits to the items of one list of a state's work, one after another, and marks on items. Assumes nothing.
+-- Visits to the items of one list of a state's work, one after another, what they leave, and marks on items. Assumes nothing.
 use Rattle.std.specs.Prelude.{◌≡◌, ℕ, zero, suc, Bool, true, false, List, Some, None, Option, slice_index_or}
 use Rattle.std.specs.List.{slice_get}
 use Rattle.meaning.specs.declared.parts.Stop.TheVariants.{Crowded}
