@@ -1,10 +1,10 @@
 -- What reading and writing the rows of a board means.
-use Rattle.std.proofs.Common.{◌≡◌, ℕ, zero, suc, ◌+◌, ◌<◌, ◌≤◌, Bool, true, false, cond, ◌&&◌, ◌==◌, eqb, ltb, leb, ◌⊎◌, List, [], ◌∷◌, ◌++◌, map, length, get_or, set, Some, None, sym, refl, ap, ◌∙◌, subst, ⊎_elim, add-one, arith}
+use Rattle.std.proofs.Common.{◌≡◌, ℕ, zero, suc, ◌+◌, ◌<◌, ◌≤◌, Bool, true, false, cond, ◌&&◌, ◌==◌, eqb, ltb, leb, ◌⊎◌, List, [], ◌∷◌, ◌++◌, map, length, get_or, set, Some, None, Option, sym, refl, ap, ◌∙◌, subst, ⊎_elim, add-one, arith}
 use mathlib.Core.Path.{fun_ext}
 use mathlib.Core.List.{map-append}
 use lib.ListN.{length-map}
 use lib.Seq.{map-set_same}
-use Rattle.std.specs.List.{position, position_from}
+use Rattle.std.specs.List.{find, position, position_from}
 use Rattle.std.proofs.lemmas.Iterator.Adapters.{position_from-zero}
 use Rattle.std.proofs.lemmas.List.Quantifiers.{position-Some}
 use Rattle.std.proofs.lemmas.Option.{none-some}
@@ -103,32 +103,34 @@ lives_none s h = elim h.inside [ ]
 abbrev pub has_serial : ℕ → Row → Bool
 has_serial s r = r.span.serial == s
 
-ends_first : (l : List Row) (i s : ℕ) (r : Row) → i < length l → r ≡ get_or l i r → eqb r.span.serial s ≡ true → ((k : ℕ) → k < i → has_serial s (get_or l k r) ≡ false) → ends_of l s ≡ r.end
-ends_first [] i s r h e p q = absurd (omega arith)
-ends_first (x ∷ l) zero s r h e p q = cond-true (eqb x.span.serial s) x.end (ends_of l s) (subst (λ (z : Row). eqb z.span.serial s ≡ true) e p) ∙ ap (λ (z : Row). z.end) (sym e)
-ends_first (x ∷ l) (suc i) s r h e p q = cond-false (eqb x.span.serial s) x.end (ends_of l s) (q 0 (omega arith)) ∙ ends_first l i s r (omega arith) e p (λ k m. q (suc k) (omega arith))
+-- the end of the row that a search finds
+abbrev pub end_of_found : Option Row → End
+end_of_found None = Unknown
+end_of_found (Some r) = r.end
 
--- the row at the place that the search finds has the end of the span
-pub placed_end : (l : List Row) (s i : ℕ) (r : Row) → position (has_serial s) l ≡ Some i → r ≡ get_or l i r → r.end ≡ ends_of l s
-placed_end l s i r p e =
-    let f = position-Some (has_serial s) l i r p in
-    sym (ends_first l i s r f.0 e (subst (λ (z : Row). eqb z.span.serial s ≡ true) (sym e) f.1) f.2)
+-- the first row with the serial has the end of the span
+pub found_end : (l : List Row) (s : ℕ) → end_of_found (find (has_serial s) l) ≡ ends_of l s
+found_end [] s = refl
+found_end (r ∷ l) s = by (eqb r.span.serial s) (found_end l s)
+  where
+    by : (b : Bool) → end_of_found (find (has_serial s) l) ≡ ends_of l s → end_of_found (cond b (Some r) (find (has_serial s) l)) ≡ cond b r.end (ends_of l s)
+    by true ih = refl
+    by false ih = ih
 
 pub placed_serial : (l : List Row) (s i : ℕ) → position (has_serial s) l ≡ Some i → HasSerial l i s
 placed_serial l s i p = let f = position-Some (has_serial s) l i no_row p in (f.0, eqb-true (get_or l i no_row).span.serial s f.1)
 
-none_from : (l : List Row) (s k : ℕ) → position_from (has_serial s) k l ≡ None → (ends_of l s ≡ Unknown) × (Lives (map span_of l) s → ⊥)
-none_from [] s k p = (refl, lives_none s)
-none_from (r ∷ l) s k p = by (eqb r.span.serial s) refl p (none_from l s (k + 1))
+none_from : (l : List Row) (s k : ℕ) → position_from (has_serial s) k l ≡ None → Lives (map span_of l) s → ⊥
+none_from [] s k p h = lives_none s h
+none_from (r ∷ l) s k p h = by (eqb r.span.serial s) refl p (none_from l s (k + 1))
   where
     by : (b : Bool) → eqb r.span.serial s ≡ b → cond b (Some k) (position_from (has_serial s) (k + 1) l) ≡ None
-        → (position_from (has_serial s) (k + 1) l ≡ None → (ends_of l s ≡ Unknown) × (Lives (map span_of l) s → ⊥))
-        → (cond b r.end (ends_of l s) ≡ Unknown) × (Lives (map span_of (r ∷ l)) s → ⊥)
-    by true e p ih = absurd (none-some k (sym p))
-    by false e p ih = let f = ih p in (f.0, λ h. f.1 (lives_past r l s (λ q. true≢false (sym (eq-eqb r.span.serial s q) ∙ e)) h))
+        → (position_from (has_serial s) (k + 1) l ≡ None → Lives (map span_of l) s → ⊥) → ⊥
+    by true e p ih = none-some k (sym p)
+    by false e p ih = ih p (lives_past r l s (λ q. true≢false (sym (eq-eqb r.span.serial s q) ∙ e)) h)
 
--- where the search finds none, no such span runs, and nothing is known of its end
-pub unplaced : (l : List Row) (s : ℕ) → position (has_serial s) l ≡ None → (ends_of l s ≡ Unknown) × (Lives (map span_of l) s → ⊥)
+-- where the search finds none, no such span runs
+pub unplaced : (l : List Row) (s : ℕ) → position (has_serial s) l ≡ None → Lives (map span_of l) s → ⊥
 unplaced l s p = none_from l s 0 (sym (position_from-zero (has_serial s) l) ∙ p)
 
 -- a new row

@@ -1,6 +1,5 @@
 // The ends of spans.
-ghost use Rattle.std.specs.Prelude.{◌≡◌, ◌==◌};
-ghost use Rattle.std.specs.List.{position};
+ghost use Rattle.std.specs.Prelude.{◌≡◌};
 ghost use Rattle.meaning.specs.Order.{Lives};
 ghost use Rattle.meaning.specs.Effects.{with_end, put as putting};
 ghost use Rattle.board.specs.Answers.{told};
@@ -15,10 +14,10 @@ impl Board {
     pub fn end_of(&self, serial: u32) -> End
         ensures { result ≡ (held self.now).ends serial }
     {
-        match self.place_of(serial) {
-            Some(i) => self.rows[i].end,
-            None => End::Unknown,
-        }
+        self.rows
+            .iter()
+            .find(|row| row.span.serial == serial)
+            .map_or(End::Unknown, |row| row.end)
     }
 
     // Puts the end of a span that runs. A contradiction is placed at `place`.
@@ -41,15 +40,9 @@ impl Board {
         requires { Lives (held self.old).spans serial }
         ensures { held self.new ≡ with_end end serial (held self.old) }
     {
-        if let Some(i) = self.place_of(serial) {
+        // No `iter_mut().find(..)`: tried, and the proof does not close, since of rows that are written so it knows no more than how many there are.
+        if let Some(i) = self.rows.iter().position(|row| row.span.serial == serial) {
             self.rows[i].end = end;
         }
-    }
-
-    // The place of the row with this serial, or none.
-    fn place_of(&self, serial: u32) -> Option<usize>
-        ensures { result ≡ position (λ r. r.span.serial == serial) self.now.rows.items }
-    {
-        self.rows.iter().position(|row| row.span.serial == serial)
     }
 }

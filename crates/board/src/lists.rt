@@ -12,6 +12,7 @@ use meaning::{Duty, Stop};
 fn has_duty(list: &[Duty], duty: Duty) -> bool
     ensures { result ≡ has_duty duty list.now }
 {
+    // No `contains`: `first_place` is the one search for ordered items, proved once, and this would be a second.
     search::first_place(list, &duty).is_some()
 }
 

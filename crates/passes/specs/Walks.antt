@@ -1,9 +1,10 @@
--- Visits to the items of one list of a state's work, one after another, and marks on items. Assumes nothing.
+-- Visits to the items of one list of a state's work, one after another, what they leave, and marks on items. Assumes nothing.
 use Rattle.std.specs.Prelude.{◌≡◌, ℕ, zero, suc, Bool, true, false, List, Some, None, Option, slice_index_or}
 use Rattle.std.specs.List.{slice_get}
 use Rattle.meaning.specs.declared.parts.Stop.TheVariants.{Crowded}
+use Rattle.meaning.specs.Intervals.{Setting}
 use Rattle.meaning.specs.Work.{Work, Outcome, stops, goes, unchanged, and_then}
-use Rattle.meaning.specs.Order.{Later}
+use Rattle.meaning.specs.Order.{Tidy, Later}
 
 -- a visit to an item, where there is one, and then the rest
 abbrev pub visit_one : {T : Type 0} → (T → Work → Outcome) → Option T → (Work → Outcome) → Work → Outcome
@@ -18,3 +19,8 @@ visit_from items v (suc n) i w = visit_one v (slice_get (items w) i) (visit_from
 -- each mark stands at an item that is visited in vain from now on, to the end of the state
 abbrev pub MarkedBy : {T : Type 0} → (Work → List T) → (T → Work → Outcome) → Work → List Bool → Type 0
 MarkedBy {T} items v w marks = (i : ℕ) → slice_index_or marks i false ≡ true → (t : T) × (slice_get (items w) i ≡ Some t) × ((u : Work) → Later w u → v t u ≡ goes u false)
+
+-- what visits leave of the work w: a later work of the state, in order wherever w is, in these settings
+pub record Leaves (within : Setting → Type 0) (w u : Work) : Type 0 where
+  pub tidy : (S : Setting) → within S → Tidy S w → Tidy S u
+  pub later : Later w u

@@ -1,13 +1,14 @@
 // Visits to the duties of a state.
 ghost use Rattle.std.specs.Prelude.{◌≡◌, not, length, OnOk, slice_index_or};
 ghost use Rattle.sheet.specs.declared.parts.Statement.TheVariants.{True as true_so};
-ghost use Rattle.meaning.specs.Order.{Tidy, Later};
+ghost use Rattle.meaning.specs.Order.{Tidy};
 ghost use Rattle.meaning.specs.Passes.{pass_fuel, visit_duties};
 ghost use Rattle.meaning.specs.Rules.{visit};
 ghost use Rattle.board.specs.Answers.{told};
 ghost use Rattle.board.specs.Held.{held};
 ghost use Rattle.passes.specs.Passing.{setting_of};
 ghost use Rattle.passes.specs.Marked.{Marked, lasting};
+ghost use Rattle.passes.specs.Walks.{Leaves};
 
 use crate::parts::Pass;
 use crate::visits::{Visits, visit_all};
@@ -65,8 +66,7 @@ impl<'a, F: Feed> Pass<'a, F> {
         requires long { length marks.old ≡ 512 }
         ensures visited { told result (held board.new) ≡ visit_duties (setting_of F.Feed.readings self.now) self.now.state pass_fuel 0 (held board.old) }
         ensures marked { OnOk result (Marked (setting_of F.Feed.readings self.now) self.now.state (held board.new) marks.new) }
-        ensures tidy { OnOk result (Tidy (setting_of F.Feed.readings self.now) (held board.new)) }
-        ensures later { OnOk result (Later (held board.old) (held board.new)) }
+        ensures leaves { OnOk result (Leaves (λ S. S ≡ setting_of F.Feed.readings self.now) (held board.old) (held board.new)) }
     {
         visit_all::<Duty, Pass<'a, F>>(self, board, memo, marks)
     }

@@ -2,12 +2,13 @@
 ghost use Rattle.std.specs.Prelude.{◌≡◌, true, length, OnOk};
 ghost use Rattle.std.specs.Bool.{⊤};
 ghost use Rattle.meaning.specs.Intervals.{Setting};
-ghost use Rattle.meaning.specs.Order.{Tidy, Later};
+ghost use Rattle.meaning.specs.Order.{Tidy};
 ghost use Rattle.meaning.specs.Passes.{visit_spans};
 ghost use Rattle.meaning.specs.Rules.{visit_span};
 ghost use Rattle.board.specs.Answers.{told};
 ghost use Rattle.board.specs.Held.{held};
 ghost use Rattle.passes.specs.Marked.{MarkedSpans};
+ghost use Rattle.passes.specs.Walks.{Leaves};
 
 use crate::parts::Pass;
 use crate::visits::{Visits, visit_all};
@@ -57,8 +58,7 @@ impl<'a, F: Feed> Pass<'a, F> {
         requires long { length marks.old ≡ 64 }
         ensures visited { told result (held board.new) ≡ visit_spans (held board.old).spans (held board.old) }
         ensures marked { OnOk result (MarkedSpans (held board.new) marks.new) }
-        ensures tidy { OnOk result ((S : Setting) → Tidy S (held board.old) → Tidy S (held board.new)) }
-        ensures later { OnOk result (Later (held board.old) (held board.new)) }
+        ensures leaves { OnOk result (Leaves (λ S. ⊤) (held board.old) (held board.new)) }
     {
         visit_all::<Span, Pass<'a, F>>(self, board, memo, marks)
     }

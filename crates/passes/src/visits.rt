@@ -6,7 +6,7 @@ ghost use Rattle.meaning.specs.Order.{Tidy, Later};
 ghost use Rattle.meaning.specs.Work.{Work, Outcome, goes};
 ghost use Rattle.board.specs.Answers.{told};
 ghost use Rattle.board.specs.Held.{held};
-ghost use Rattle.passes.specs.Walks.{visit_from, MarkedBy};
+ghost use Rattle.passes.specs.Walks.{visit_from, MarkedBy, Leaves};
 
 use board::Board;
 use meaning::Stop;
@@ -43,8 +43,7 @@ pub(crate) trait Visits<T> {
         requires tidy { (S : Setting) × within self.now S × Tidy S (held board.old) }
         requires there { (i : ℕ) × (slice_get (items (held board.old)) i ≡ some item) }
         ensures visited { told result (held board.new) ≡ visited self.now item (held board.old) }
-        ensures tidy { OnOk result ((S : Setting) → within self.now S → Tidy S (held board.old) → Tidy S (held board.new)) }
-        ensures later { OnOk result (Later (held board.old) (held board.new)) }
+        ensures leaves { OnOk result (Leaves (within self.now) (held board.old) (held board.new)) }
         ensures vain { result ≡ ok true → spent self.now item ≡ true → (v : Work) → Later (held board.new) v → visited self.now item v ≡ goes v false };
 
     // An item keeps its place, to the end of the state.
@@ -66,8 +65,7 @@ fn visit_at<T: Copy, P: Visits<T>>(
     requires inside { place < length marks.old }
     ensures visited { told result (held board.new) ≡ P.visited pass.now item (held board.old) }
     ensures marked { OnOk result (MarkedBy P.items (P.visited pass.now) (held board.new) marks.new) }
-    ensures tidy { OnOk result ((S : Setting) → P.within pass.now S → Tidy S (held board.old) → Tidy S (held board.new)) }
-    ensures later { OnOk result (Later (held board.old) (held board.new)) }
+    ensures leaves { OnOk result (Leaves (P.within pass.now) (held board.old) (held board.new)) }
 {
     if marks[place] {
         return Ok(false);
@@ -91,8 +89,7 @@ pub(crate) fn visit_all<T: Copy, P: Visits<T>>(
     requires long { length marks.old ≡ P.most }
     ensures visited { told result (held board.new) ≡ visit_from P.items (P.visited pass.now) (suc P.most) 0 (held board.old) }
     ensures marked { OnOk result (MarkedBy P.items (P.visited pass.now) (held board.new) marks.new) }
-    ensures tidy { OnOk result ((S : Setting) → P.within pass.now S → Tidy S (held board.old) → Tidy S (held board.new)) }
-    ensures later { OnOk result (Later (held board.old) (held board.new)) }
+    ensures leaves { OnOk result (Leaves (P.within pass.now) (held board.old) (held board.new)) }
 {
     let mut changed = false;
     // No `for` over the places: the list may grow, and only the list itself says that no item is left.

@@ -9,9 +9,8 @@ ghost use Rattle.board.specs.Answers.{told};
 ghost use Rattle.board.specs.Held.{held, sheet_of};
 ghost use Rattle.rules.specs.Visits.{Ready, ruled};
 
-use crate::opening::chop_rule;
 use crate::parts::Visit;
-use crate::plain::{always_rule, and_rule, on_and_carry, plainly};
+use crate::plain::plainly;
 use board::Board;
 use feed::Feed;
 use meaning::{Duty, Stop};
@@ -38,14 +37,14 @@ impl<'a, F: Feed> Visit<'a, F> {
             Statement::Empty => board.put(duty.statement, End::Last, duty.span),
             Statement::More => board.put(duty.statement, End::On, duty.span),
             Statement::Is(x, e) => self.is_rule(board, memo, x, e),
-            Statement::And(p, q) => and_rule(board, duty, p, q),
+            Statement::And(p, q) => self.and_rule(board, p, q),
             Statement::If(e, p, q) => self.if_rule(board, memo, e, p, q),
-            Statement::Next(p) => on_and_carry(board, duty, plainly(p, duty.span)),
-            Statement::Always(p) => always_rule(board, duty, p),
+            Statement::Next(p) => self.on_and_carry(board, plainly(p, duty.span)),
+            Statement::Always(p) => self.always_rule(board, p),
             Statement::Halt(e) => self.halt_rule(board, memo, e),
             Statement::Len(e) => self.len_rule(board, memo, e),
             Statement::Gets(x, e) => self.gets_rule(board, memo, x, e),
-            Statement::Chop(p, q) => chop_rule(board, duty, p, q),
+            Statement::Chop(p, q) => self.chop_rule(board, p, q),
             Statement::For(e, p) => self.for_rule(board, memo, e, p),
             Statement::While(e, p) => self.while_rule(board, memo, e, p),
             Statement::Request(x) => self.request_rule(board, x),

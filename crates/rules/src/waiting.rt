@@ -7,9 +7,8 @@ ghost use Rattle.board.specs.Answers.{told};
 ghost use Rattle.board.specs.Held.{held};
 ghost use Rattle.rules.specs.Visits.{Fitted, Ready, ruled};
 
-use crate::opening::{for_by, while_by};
 use crate::parts::Visit;
-use crate::plain::{gets_by, halt_by, len_by, plainly, with_number};
+use crate::plain::{plainly, with_number};
 use board::Board;
 use feed::Feed;
 use meaning::Stop;
@@ -69,7 +68,7 @@ impl<'a, F: Feed> Visit<'a, F> {
         let Some(v) = self.number(board, memo, e) else {
             return Ok(false);
         };
-        halt_by(board, self.duty, v)
+        self.halt_by(board, v)
     }
 
     // `len`: by its number, or by that of its expression.
@@ -77,13 +76,10 @@ impl<'a, F: Feed> Visit<'a, F> {
         requires ready { Ready self.now (held board.old) }
         ensures { told result (held board.new) ≡ ruled F.Feed.readings self.now (len_so e) (held board.old) }
     {
-        if let Some(c) = self.duty.number {
-            return len_by(board, self.duty, c);
-        }
-        let Some(v) = self.number(board, memo, e) else {
+        let Some(v) = self.duty.number.or_else(|| self.number(board, memo, e)) else {
             return Ok(false);
         };
-        len_by(board, self.duty, v)
+        self.len_by(board, v)
     }
 
     // `gets`: the variable takes the number that was carried; or the number of the expression is carried, where the span is on.
@@ -107,7 +103,7 @@ impl<'a, F: Feed> Visit<'a, F> {
         let Some(v) = self.number(board, memo, e) else {
             return Ok(false);
         };
-        gets_by(board, self.duty, v)
+        self.gets_by(board, v)
     }
 
     // `for`: by its count, or the `for` with the count that its expression gives.
@@ -122,7 +118,7 @@ impl<'a, F: Feed> Visit<'a, F> {
         ensures { told result (held board.new) ≡ ruled F.Feed.readings self.now (for_so e p) (held board.old) }
     {
         if let Some(c) = self.duty.number {
-            return for_by(board, self.duty, p, c);
+            return self.for_by(board, p, c);
         }
         let Some(v) = self.number(board, memo, e) else {
             return Ok(false);
@@ -144,7 +140,7 @@ impl<'a, F: Feed> Visit<'a, F> {
         let Some(v) = self.number(board, memo, e) else {
             return Ok(false);
         };
-        while_by(board, self.duty, p, v)
+        self.while_by(board, p, v)
     }
 
     // `request`: the variable takes the reading, where there is one.

@@ -18,7 +18,7 @@ returns-in_err-changed-clause-visited g c =
     rw (p.1, p.2) (from_stop V.items v (suc V.most) l.place c.in-Some.item (held l.board) c.in_err-changed.field-0.0 l.changed (visit_from V.items v (suc V.most) 0 (held c.args.board.now)) h (sym c.in-Some.ensures.found) c.in_err-changed.ensures.visited l.invariant.going)
 
 pub visit_at-requires-clause-tidy : goal.visit_at-requires-clause-tidy
-visit_at-requires-clause-tidy g c = let t = c.requires.tidy in (t.0, t.1, c.loop-item.invariant.tidy t.0 t.1 t.2)
+visit_at-requires-clause-tidy g c = let t = c.requires.tidy in (t.0, t.1, c.loop-item.invariant.leaves.tidy t.0 t.1 t.2)
 
 pub loop-item-smaller : goal.loop-item-smaller
 loop-item-smaller g c =
@@ -35,8 +35,7 @@ loop-item-preserved g c =
     record {
       going = from_next V.items v (suc V.most) l.place c.in-Some.item (held l.board) (held c.visit_at.new.board) l.changed c.in_ok-changed.field-0 (visit_from V.items v (suc V.most) 0 (held c.args.board.now)) h (sym c.in-Some.ensures.found) e.visited l.invariant.going;
       marked = e.marked;
-      tidy = λ S m t. e.tidy S m (l.invariant.tidy S m t);
-      later = later_trans l.invariant.later e.later;
+      leaves = record { tidy = λ S m t. e.leaves.tidy S m (l.invariant.leaves.tidy S m t); later = later_trans l.invariant.leaves.later e.leaves.later };
       within = omega (arith, slice_get_within (V.items (held l.board)) l.place c.in-Some.item (sym c.in-Some.ensures.found), c.item.ensures.few);
     }
 

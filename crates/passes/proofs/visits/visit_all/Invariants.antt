@@ -1,9 +1,7 @@
 use Rattle.std.proofs.Common.{◌≡◌, suc, ◌-◌, ◌≤◌}
-use Rattle.meaning.specs.Intervals.{Setting}
-use Rattle.meaning.specs.Order.{Tidy, Later}
 use Rattle.meaning.specs.Work.{also}
 use Rattle.board.specs.Held.{held}
-use Rattle.passes.specs.Walks.{visit_from, MarkedBy}
+use Rattle.passes.specs.Walks.{visit_from, MarkedBy, Leaves}
 use Rattle.passes.proofs.visits.visit_all.Given as goal
 
 -- what has changed so far, and the items from this place on, make the whole
@@ -13,8 +11,7 @@ invariant-loop-item g l =
     record {
       going : also l.changed (visit_from V.items (V.visited l.pass) (suc V.most - l.place) l.place (held l.board)) ≡ visit_from V.items (V.visited l.pass) (suc V.most) 0 (held l.initial.board);
       marked : MarkedBy V.items (V.visited l.pass) (held l.board) l.marks;
-      tidy : (S : Setting) → V.within l.pass S → Tidy S (held l.initial.board) → Tidy S (held l.board);
-      later : Later (held l.initial.board) (held l.board);
+      leaves : Leaves (V.within l.pass) (held l.initial.board) (held l.board);
       within : l.place ≤ V.most;
     }
 

@@ -9,4 +9,4 @@ returns-then-is_spent-clause-marked g c =
     let V = g.P.Visits in
     let e = c.in_ok-changed.ensures in
     marked_set V.items (V.visited c.args.pass.now) g.met.P.Visits.stays c.args.place c.args.item (held c.args.board.now) (held c.visit.new.board) c.args.marks.now
-    c.requires.there (e.vain (ap (λ (b : Bool). Ok b) c.if-changed.true) (sym c.is_spent.ensures ∙ c.if-is_spent.true)) e.later c.requires.marked
+    c.requires.there (e.vain (ap (λ (b : Bool). Ok b) c.if-changed.true) (sym c.is_spent.ensures ∙ c.if-is_spent.true)) e.leaves.later c.requires.marked

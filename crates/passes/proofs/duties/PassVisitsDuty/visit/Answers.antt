@@ -1,7 +1,7 @@
 -- A duty of the list has a span that lives.
 use Rattle.std.proofs.Common.{sym, ap, ◌∙◌, subst}
 use Rattle.meaning.specs.Intervals.{Setting}
-use Rattle.meaning.specs.Order.{Tidy, Later}
+use Rattle.meaning.specs.Order.{Tidy}
 use Rattle.meaning.specs.Rules.{visit}
 use Rattle.meaning.proofs.Lists.{nth_in}
 use Rattle.board.specs.Answers.{told}
@@ -17,22 +17,17 @@ visit_duty-requires-clause-lives g c = c.requires.tidy.2.duty_lives c.args.item 
 pub visit_duty-requires-clause-fitted : goal.visit_duty-requires-clause-fitted
 visit_duty-requires-clause-fitted g c = λ f. (subst (λ S. Tidy S (held c.args.board.now)) c.requires.tidy.1 c.requires.tidy.2).fitted
 
-pub returns-clause-tidy : goal.returns-clause-tidy
-returns-clause-tidy g c =
+pub returns-clause-leaves : goal.returns-clause-leaves
+returns-clause-leaves g c =
     let p = c.args.self.now in
     let R = setting_of g.F.Feed.readings p in
     let w = held c.args.board.now in
     let u = held c.visit_duty.new.board in
     told_ok c.visit_duty.result u (visit R p.state c.args.item w) _ c.visit_duty.ensures
-    (λ b e S m. subst (λ (z : Setting). Tidy z w → Tidy z u) (sym m) (λ t. visit_tidy R (limits_of p.sheet.now) p.state c.requires.there.0 c.args.item w u b t c.requires.there.1 e))
-
-pub returns-clause-later : goal.returns-clause-later
-returns-clause-later g c =
-    let p = c.args.self.now in
-    let R = setting_of g.F.Feed.readings p in
-    let w = held c.args.board.now in
-    let u = held c.visit_duty.new.board in
-    told_ok c.visit_duty.result u (visit R p.state c.args.item w) (Later w u) c.visit_duty.ensures (visit_later R p.state c.args.item w u)
+    (λ b e. record {
+      tidy = λ S m. subst (λ (z : Setting). Tidy z w → Tidy z u) (sym m) (λ t. visit_tidy R (limits_of p.sheet.now) p.state c.requires.there.0 c.args.item w u b t c.requires.there.1 e);
+      later = visit_later R p.state c.args.item w u b e;
+    })
 
 pub returns-clause-vain : goal.returns-clause-vain
 returns-clause-vain g c =

@@ -1,6 +1,5 @@
 -- A span of the list lives, and so does the one that it lies in.
 use Rattle.std.proofs.Common.{sym, ap, ◌∙◌}
-use Rattle.meaning.specs.Order.{Later}
 use Rattle.meaning.specs.Rules.{visit_span}
 use Rattle.meaning.proofs.Lists.{nth_in}
 use Rattle.board.specs.Answers.{told}
@@ -15,17 +14,15 @@ visit_span-requires-clause-own g c = span_lives (held c.args.board.now).spans c.
 pub visit_span-requires-clause-outer : goal.visit_span-requires-clause-outer
 visit_span-requires-clause-outer g c = c.requires.tidy.2.nested c.args.item (nth_in (held c.args.board.now).spans c.requires.there.0 c.args.item c.requires.there.1)
 
-pub returns-clause-tidy : goal.returns-clause-tidy
-returns-clause-tidy g c =
+pub returns-clause-leaves : goal.returns-clause-leaves
+returns-clause-leaves g c =
     let w = held c.args.board.now in
     let u = held c.visit_span.new.board in
-    told_ok c.visit_span.result u (visit_span c.args.item w) _ c.visit_span.ensures (λ b e S m t. span_tidy S c.requires.there.0 c.args.item w u b t c.requires.there.1 e)
-
-pub returns-clause-later : goal.returns-clause-later
-returns-clause-later g c =
-    let w = held c.args.board.now in
-    let u = held c.visit_span.new.board in
-    told_ok c.visit_span.result u (visit_span c.args.item w) (Later w u) c.visit_span.ensures (span_later c.requires.tidy.0 c.args.item w u)
+    told_ok c.visit_span.result u (visit_span c.args.item w) _ c.visit_span.ensures
+    (λ b e. record {
+      tidy = λ S m t. span_tidy S c.requires.there.0 c.args.item w u b t c.requires.there.1 e;
+      later = span_later c.requires.tidy.0 c.args.item w u b e;
+    })
 
 pub returns-clause-vain : goal.returns-clause-vain
 returns-clause-vain g c =
