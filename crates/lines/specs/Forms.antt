@@ -1,7 +1,6 @@
 -- Operations: their words, what their operands stand for, and what they make of them. Assumes nothing.
 -- An operation is given as an expression or a statement whose operands are 0.
 use Rattle.std.specs.Prelude.{ℕ, if◌then◌else◌, List, [], ◌∷◌, Some, None, codes, Option}
-use Rattle.std.specs.Borrow.{Bor}
 use Rattle.std.specs.Str.{bytes_eq}
 use Rattle.sheet.specs.declared.parts.Operator.TheVariants as Operator
 use Rattle.sheet.specs.declared.parts.Expression.{Expression}
@@ -16,11 +15,6 @@ use Rattle.lines.specs.declared.items.Operands.{Operands}
 -- x where w is the word v, else y
 abbrev pub when : {X : Type 0} → List ℕ → List ℕ → X → X → X
 when w v x y = if bytes_eq w v then x else y
-
--- what a table has for the word w: what stands beside w, where w is first
-abbrev pub looked_up : {X : Type 0} → List (Bor (List ℕ) × X) → List ℕ → Option X
-looked_up [] w = None
-looked_up (r ∷ rs) w = when w r.0.now (Some r.1) (looked_up rs w)
 
 -- the key that a word names
 abbrev pub keyword_of : List ℕ → Option Keyword

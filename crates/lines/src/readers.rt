@@ -11,7 +11,7 @@ use crate::sizes::expression_size;
 use crate::words::cut_words;
 use drafts::{Draft, Item};
 use sheet::{Expression, Name, Variable};
-use text::{Reader, same};
+use text::Reader;
 
 // The longest line, in bytes.
 const LONGEST_LINE: usize = 64;
@@ -54,7 +54,7 @@ fn read_expression(draft: &Draft, words: Words) -> Result<Item, Fault>
     ensures { (ws : List (List ℕ)) → Spells words.entry ws → result ≡ expression_of (said draft.now) ws }
 {
     match words {
-        Words::Two(op, a) if same(op, b"num") => read_constant(draft, a),
+        Words::Two(b"num", a) => read_constant(draft, a),
         _ => with_size(draft, read_operation(draft, words)?),
     }
 }
