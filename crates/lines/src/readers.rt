@@ -126,15 +126,15 @@ fn may_stand(draft: &Draft, key: Keyword) -> bool
 {
     let tables = &draft.tables;
     match key {
-        Keyword::Sheet => tables.variables.len() == 0,
-        Keyword::Var => tables.expressions.len() == 0
-            && tables.statements.len() == 0
+        Keyword::Sheet => tables.variables.is_empty(),
+        Keyword::Var => tables.expressions.is_empty()
+            && tables.statements.is_empty()
             && draft.run.is_none(),
-        Keyword::Expr => tables.variables.len() > 0
-            && tables.statements.len() == 0
+        Keyword::Expr => !tables.variables.is_empty()
+            && tables.statements.is_empty()
             && draft.run.is_none(),
-        Keyword::Stmt => tables.variables.len() > 0 && draft.run.is_none(),
-        Keyword::Run => tables.variables.len() > 0 && tables.statements.len() > 0,
+        Keyword::Stmt => !tables.variables.is_empty() && draft.run.is_none(),
+        Keyword::Run => !tables.variables.is_empty() && !tables.statements.is_empty(),
     }
 }
 
@@ -185,9 +185,7 @@ pub fn read_line(draft: &Draft, line: &[u8]) -> Result<Item, Fault>
         return Err(Fault::Long);
     }
     let mut reader = Reader::new(line);
-    let Some(word) = reader.key() else {
-        return Err(Fault::Key);
-    };
+    let word = reader.key().ok_or(Fault::Key)?;
     let key = admit(draft, forms::keyword(word).ok_or(Fault::Key)?)?;
     let words = cut_words(&mut reader).ok_or(Fault::Form)?;
     read_item(draft, key, words)

@@ -35,8 +35,5 @@ pub(crate) fn cut_words<'a>(reader: &mut Reader<'a>) -> Option<Words<'a>>
     let Some(d) = reader.word() else {
         return Some(Words::Three(a, b, c));
     };
-    match reader.word() {
-        Some(_) => None,
-        None => Some(Words::Four(a, b, c, d)),
-    }
+    reader.word().is_none().then_some(Words::Four(a, b, c, d))
 }
