@@ -40,7 +40,7 @@ pub enum Role {
 }
 
 // The roles of the words after an operation; none where there is no such word.
-#[derive(Clone, Copy)]
+#[derive(Clone, Copy, Debug, PartialEq, Eq)]
 pub struct Roles {
     pub first: Option<Role>,
     pub second: Option<Role>,
@@ -48,7 +48,7 @@ pub struct Roles {
 }
 
 // The numbers of the operands. One that is absent is 0, and no option, since an operation takes those that it has, and would have to ask again.
-#[derive(Clone, Copy)]
+#[derive(Clone, Copy, Debug, PartialEq, Eq)]
 pub struct Operands {
     pub first: u16,
     pub second: u16,
@@ -56,7 +56,7 @@ pub struct Operands {
 }
 
 // The words of a line, one to four, as parts of the line itself.
-#[derive(Clone, Copy)]
+#[derive(Clone, Copy, Debug, PartialEq, Eq)]
 pub enum Words<'a> {
     One(&'a [u8]),
     Two(&'a [u8], &'a [u8]),
