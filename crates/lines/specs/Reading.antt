@@ -25,17 +25,17 @@ abbrev pub then : {A B E : Type 0} → Result A E → (A → Result B E) → Res
 then (Ok x) f = f x
 then (Err e) f = Err e
 
--- r has the words ws
-abbrev pub Spells : Words → List (List ℕ) → Type 0
-Spells (One a) ws = ws ≡ a.now ∷ []
-Spells (Two a b) ws = ws ≡ a.now ∷ b.now ∷ []
-Spells (Three a b c) ws = ws ≡ a.now ∷ b.now ∷ c.now ∷ []
-Spells (Four a b c d) ws = ws ≡ a.now ∷ b.now ∷ c.now ∷ d.now ∷ []
+-- the words of a line, as lists of bytes
+abbrev pub spelled : Words → List (List ℕ)
+spelled (One a) = a.now ∷ []
+spelled (Two a b) = a.now ∷ b.now ∷ []
+spelled (Three a b c) = a.now ∷ b.now ∷ c.now ∷ []
+spelled (Four a b c d) = a.now ∷ b.now ∷ c.now ∷ d.now ∷ []
 
 -- o has the words ws; there is none where they are more than four
 abbrev pub Cut : Option Words → List (List ℕ) → Type 0
 Cut None ws = 4 < length ws
-Cut (Some r) ws = Spells r ws
+Cut (Some r) ws = ws ≡ spelled r
 
 -- a line with this key may stand here: no later key stood before, and neither `var` nor `stmt` is skipped
 abbrev pub allowed : Said → Keyword → Bool

@@ -1,7 +1,7 @@
 // The operands of a line, with their faults in the order of their numbers.
-ghost use Rattle.std.specs.Prelude.{◌≡◌, ℕ, List};
+ghost use Rattle.std.specs.Prelude.{◌≡◌};
 ghost use Rattle.drafts.specs.Said.{said};
-ghost use Rattle.lines.specs.Reading.{Spells, word_in, numeral, resolved, there, operands};
+ghost use Rattle.lines.specs.Reading.{spelled, word_in, numeral, resolved, there, operands};
 
 use crate::items::{Fault, Operands, Role, Roles, Words};
 use drafts::Draft;
@@ -66,7 +66,7 @@ impl<'a> Operand<'a> {
 
 // The operands in the second, third and fourth word of a line.
 pub(crate) fn read_operands(draft: &Draft, roles: Roles, words: Words) -> Result<Operands, Fault>
-    ensures { (ws : List (List ℕ)) → Spells words.entry ws → result ≡ operands (said draft.now) roles (word_in ws 1) (word_in ws 2) (word_in ws 3) }
+    ensures { result ≡ operands (said draft.now) roles (word_in (spelled words.entry) 1) (word_in (spelled words.entry) 2) (word_in (spelled words.entry) 3) }
 {
     let (a, b, c) = words.rest();
     let a = Operand {

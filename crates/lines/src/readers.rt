@@ -1,7 +1,7 @@
 // What a line says, or its fault.
-ghost use Rattle.std.specs.Prelude.{◌≡◌, ℕ, List};
+ghost use Rattle.std.specs.Prelude.{◌≡◌};
 ghost use Rattle.drafts.specs.Said.{said};
-ghost use Rattle.lines.specs.Reading.{Spells, allowed, full, sized, operation_of, constant, expression_of, statement_of, bound, upward, fresh, variable_of, run_of, admitted, item_of, line_of};
+ghost use Rattle.lines.specs.Reading.{spelled, allowed, full, sized, operation_of, constant, expression_of, statement_of, bound, upward, fresh, variable_of, run_of, admitted, item_of, line_of};
 
 use crate::forms;
 use crate::items::{Fault, Keyword, Role, Words};
@@ -34,7 +34,7 @@ fn with_size(draft: &Draft, e: Expression) -> Result<Item, Fault>
 
 // The operation that the words of a line name, with the operands that they tell.
 fn read_operation<O: Operation>(draft: &Draft, words: Words) -> Result<O, Fault>
-    ensures { (ws : List (List ℕ)) → Spells words.entry ws → result ≡ operation_of O.named O.roles O.with (said draft.now) ws }
+    ensures { result ≡ operation_of O.named O.roles O.with (said draft.now) (spelled words.entry) }
 {
     let operation = O::named(words).ok_or(Fault::Form)?;
     let operands = read_operands(draft, operation.roles(), words)?;
@@ -51,7 +51,7 @@ fn read_constant(draft: &Draft, word: &[u8]) -> Result<Item, Fault>
 
 // An `expr` line.
 fn read_expression(draft: &Draft, words: Words) -> Result<Item, Fault>
-    ensures { (ws : List (List ℕ)) → Spells words.entry ws → result ≡ expression_of (said draft.now) ws }
+    ensures { result ≡ expression_of (said draft.now) (spelled words.entry) }
 {
     match words {
         Words::Two(b"num", a) => read_constant(draft, a),
@@ -61,7 +61,7 @@ fn read_expression(draft: &Draft, words: Words) -> Result<Item, Fault>
 
 // A `stmt` line.
 fn read_statement(draft: &Draft, words: Words) -> Result<Item, Fault>
-    ensures { (ws : List (List ℕ)) → Spells words.entry ws → result ≡ statement_of (said draft.now) ws }
+    ensures { result ≡ statement_of (said draft.now) (spelled words.entry) }
 {
     Ok(Item::Statement(read_operation(draft, words)?))
 }
@@ -95,7 +95,7 @@ fn fresh_name(draft: &Draft, word: &[u8]) -> Result<Name, Fault>
 
 // A `var` line.
 fn read_variable(draft: &Draft, words: Words) -> Result<Item, Fault>
-    ensures { (ws : List (List ℕ)) → Spells words.entry ws → result ≡ variable_of (said draft.now) ws }
+    ensures { result ≡ variable_of (said draft.now) (spelled words.entry) }
 {
     let Words::Three(word, a, b) = words else {
         return Err(Fault::Form);
@@ -109,7 +109,7 @@ fn read_variable(draft: &Draft, words: Words) -> Result<Item, Fault>
 
 // A `run` line.
 fn read_run(draft: &Draft, words: Words) -> Result<Item, Fault>
-    ensures { (ws : List (List ℕ)) → Spells words.entry ws → result ≡ run_of (said draft.now) ws }
+    ensures { result ≡ run_of (said draft.now) (spelled words.entry) }
 {
     let Words::One(word) = words else {
         return Err(Fault::Form);
@@ -166,7 +166,7 @@ fn admit(draft: &Draft, key: Keyword) -> Result<Keyword, Fault>
 
 // A line with this key and these words.
 fn read_item(draft: &Draft, key: Keyword, words: Words) -> Result<Item, Fault>
-    ensures { (ws : List (List ℕ)) → Spells words.entry ws → result ≡ item_of (said draft.now) key ws }
+    ensures { result ≡ item_of (said draft.now) key (spelled words.entry) }
 {
     match key {
         Keyword::Sheet => Err(Fault::Many),

@@ -2,7 +2,7 @@
 ghost use Rattle.std.specs.Prelude.{◌≡◌, ℕ, List, None, Some, Option};
 ghost use Rattle.lines.specs.declared.items.Roles.{Roles};
 ghost use Rattle.lines.specs.declared.items.Operands.{Operands};
-ghost use Rattle.lines.specs.Reading.{Spells};
+ghost use Rattle.lines.specs.Reading.{spelled};
 ghost use Rattle.lines.specs.Forms.{roles as given, expression_named, statement_named, expression_roles, statement_roles, expression_with, statement_with};
 
 use crate::items::{Operands, Role, Roles, Words};
@@ -65,7 +65,7 @@ pub(crate) trait Operation: Copy {
     ghost with: { Self → Operands → Self };
 
     fn named(words: Words) -> Option<Self>
-        ensures { (ws : List (List ℕ)) → Spells words.entry ws → result ≡ named ws };
+        ensures { result ≡ named (spelled words.entry) };
 
     fn roles(self) -> Roles
         ensures { result ≡ roles self };

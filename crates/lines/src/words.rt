@@ -1,7 +1,7 @@
 // The words of a line.
-ghost use Rattle.std.specs.Prelude.{◌≡◌, ◌≤◌, ℕ, List, length};
+ghost use Rattle.std.specs.Prelude.{◌≡◌, ◌≤◌, length};
 ghost use Rattle.text.specs.Cut.{left};
-ghost use Rattle.lines.specs.Reading.{Spells, Cut, word_in};
+ghost use Rattle.lines.specs.Reading.{spelled, Cut, word_in};
 
 use crate::items::Words;
 use text::Reader;
@@ -9,7 +9,7 @@ use text::Reader;
 impl<'a> Words<'a> {
     // The words after the first; no bytes where there is none.
     pub(crate) fn rest(self) -> (&'a [u8], &'a [u8], &'a [u8])
-        ensures { (ws : List (List ℕ)) → Spells self.entry ws → (result.0.now ≡ word_in ws 1) × (result.1.now ≡ word_in ws 2) × (result.2.now ≡ word_in ws 3) }
+        ensures { (result.0.now ≡ word_in (spelled self.entry) 1) × (result.1.now ≡ word_in (spelled self.entry) 2) × (result.2.now ≡ word_in (spelled self.entry) 3) }
     {
         match self {
             Words::One(_) => (b"", b"", b""),

@@ -1,8 +1,8 @@
-use Rattle.std.proofs.Common.{sym, ◌∙◌}
+use Rattle.std.proofs.Common.{sym, ap, ◌∙◌}
 use Rattle.text.specs.Cut.{left, KeyAt}
 use Rattle.drafts.specs.Said.{said}
 use Rattle.lines.specs.declared.items.Fault.{Fault}
-use Rattle.lines.specs.Reading.{Cut}
+use Rattle.lines.specs.Reading.{Cut, item_of}
 use Rattle.lines.proofs.Cutting.{line_read, line_admitted, taken_out}
 use Rattle.lines.proofs.readers.read_line.Goals as goal
 
@@ -15,5 +15,4 @@ returns c =
     let words = taken_out (λ o. Cut o (left 32 r.text.now r.place)) c.cut_words.result c.in_ok-words.words Fault.Form c.in_ok-words.ensures.value c.cut_words.ensures in
     let e = line_read d s.text c.args.line r.text c.in_ok-word.word s.place r.place
     c.new-reader.ensures.text c.new-reader.ensures.place c.key.ensures.text c.if-line-gt-LONGEST_LINE.false key in
-    let i = c.read_item.ensures _ words in
-    i ∙ sym (e ∙ line_admitted d c.keyword.result _ c.in_ok-ok_or.field-0 c.in_ok-key.key _ c.keyword.ensures c.in_ok-ok_or.ensures.value c.in_ok-key.ensures)
+    c.read_item.ensures ∙ ap (item_of d c.in_ok-key.key) (sym words) ∙ sym (e ∙ line_admitted d c.keyword.result _ c.in_ok-ok_or.field-0 c.in_ok-key.key _ c.keyword.ensures c.in_ok-ok_or.ensures.value c.in_ok-key.ensures)
