@@ -9,8 +9,7 @@ use Rattle.sheet.specs.declared.parts.Statement.{Statement}
 use Rattle.sheet.specs.declared.parts.Statement.TheVariants.{True, False, Empty, More, Is, And, If, Next, Always, Halt, Len, Gets, Chop, For, While, Request}
 use Rattle.lines.specs.declared.items.Keyword.{Keyword}
 use Rattle.lines.specs.declared.items.Role.{Role}
-use Rattle.lines.specs.declared.items.Roles.{Roles}
-use Rattle.lines.specs.declared.items.Operands.{Operands}
+use Rattle.lines.specs.declared.items.Triple.{Triple}
 
 -- x where w is the word v, else y
 abbrev pub when : {X : Type 0} → List ℕ → List ℕ → X → X → X
@@ -73,6 +72,14 @@ statement_named (op ∷ a ∷ b ∷ c ∷ []) = triple_statement op
 statement_named (op ∷ a ∷ b ∷ c ∷ e ∷ ws) = None
 
 -- the roles of the words after an operation; none where there is no such word
+abbrev pub Roles : Type 0
+Roles = Triple (Option Role)
+
+-- the numbers of its operands; 0 for one that is absent
+abbrev pub Operands : Type 0
+Operands = Triple ℕ
+
+-- the roles a, b and c, in the order of their words
 abbrev pub roles : Option Role → Option Role → Option Role → Roles
 roles a b c = record { first = a; second = b; third = c }
 

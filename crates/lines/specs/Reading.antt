@@ -13,12 +13,10 @@ use Rattle.lines.specs.declared.items.Fault.{Fault}
 use Rattle.drafts.specs.declared.items.Item.{Item}
 use Rattle.lines.specs.declared.items.Keyword.{Keyword}
 use Rattle.lines.specs.declared.items.Role.{Role}
-use Rattle.lines.specs.declared.items.Roles.{Roles}
-use Rattle.lines.specs.declared.items.Operands.{Operands}
 use Rattle.lines.specs.declared.items.Words.{Words}
 use Rattle.lines.specs.declared.items.Words.TheVariants.{One, Two, Three, Four}
 use Rattle.drafts.specs.Said.{Said}
-use Rattle.lines.specs.Forms.{keyword_of, expression_named, statement_named, expression_roles, statement_roles, expression_with, statement_with}
+use Rattle.lines.specs.Forms.{Roles, Operands, keyword_of, expression_named, statement_named, expression_roles, statement_roles, expression_with, statement_with}
 
 -- one step after another, up to the first fault
 abbrev pub then : {A B E : Type 0} → Result A E → (A → Result B E) → Result B E

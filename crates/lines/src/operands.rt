@@ -3,7 +3,7 @@ ghost use Rattle.std.specs.Prelude.{◌≡◌};
 ghost use Rattle.drafts.specs.Said.{said};
 ghost use Rattle.lines.specs.Reading.{spelled, word_in, numeral, resolved, there, operands};
 
-use crate::items::{Fault, Operands, Role, Roles, Words};
+use crate::items::{Fault, Operands, Role, Roles, Triple, Words};
 use drafts::Draft;
 
 // The largest number of an operand.
@@ -68,21 +68,21 @@ impl<'a> Operand<'a> {
 pub(crate) fn read_operands(draft: &Draft, roles: Roles, words: Words) -> Result<Operands, Fault>
     ensures { result ≡ operands (said draft.now) roles (word_in (spelled words.entry) 1) (word_in (spelled words.entry) 2) (word_in (spelled words.entry) 3) }
 {
-    let (a, b, c) = words.rest();
+    let rest = words.rest();
     let a = Operand {
         at: 2,
         role: roles.first,
-        word: a,
+        word: rest.first,
     };
     let b = Operand {
         at: 3,
         role: roles.second,
-        word: b,
+        word: rest.second,
     };
     let c = Operand {
         at: 4,
         role: roles.third,
-        word: c,
+        word: rest.third,
     };
     let (i, j, k) = (a.numeral()?, b.numeral()?, c.numeral()?);
     let (i, j, k) = (
@@ -90,9 +90,9 @@ pub(crate) fn read_operands(draft: &Draft, roles: Roles, words: Words) -> Result
         b.resolve(draft, j)?,
         c.resolve(draft, k)?,
     );
-    Ok(Operands {
-        first: a.look_there(draft, i)?,
-        second: b.look_there(draft, j)?,
-        third: c.look_there(draft, k)?,
-    })
+    Ok(Triple::new(
+        a.look_there(draft, i)?,
+        b.look_there(draft, j)?,
+        c.look_there(draft, k)?,
+    ))
 }

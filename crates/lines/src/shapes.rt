@@ -1,11 +1,9 @@
 // Operations: the words that name them, what their operands stand for, and what is made of them.
 ghost use Rattle.std.specs.Prelude.{◌≡◌, ℕ, List, None, Some, Option};
-ghost use Rattle.lines.specs.declared.items.Roles.{Roles};
-ghost use Rattle.lines.specs.declared.items.Operands.{Operands};
 ghost use Rattle.lines.specs.Reading.{spelled};
-ghost use Rattle.lines.specs.Forms.{roles as given, expression_named, statement_named, expression_roles, statement_roles, expression_with, statement_with};
+ghost use Rattle.lines.specs.Forms.{Roles, Operands, roles as given, expression_named, statement_named, expression_roles, statement_roles, expression_with, statement_with};
 
-use crate::items::{Operands, Role, Roles, Words};
+use crate::items::{Operands, Role, Roles, Triple, Words};
 use sheet::{Expression, Operator, Statement};
 
 impl Roles {
@@ -13,44 +11,28 @@ impl Roles {
     fn none() -> Roles
         ensures { result ≡ given None None None }
     {
-        Roles {
-            first: None,
-            second: None,
-            third: None,
-        }
+        Triple::new(None, None, None)
     }
 
     // One operand.
     fn one(first: Role) -> Roles
         ensures { result ≡ given (Some first) None None }
     {
-        Roles {
-            first: Some(first),
-            second: None,
-            third: None,
-        }
+        Triple::new(Some(first), None, None)
     }
 
     // Two operands.
     fn two(first: Role, second: Role) -> Roles
         ensures { result ≡ given (Some first) (Some second) None }
     {
-        Roles {
-            first: Some(first),
-            second: Some(second),
-            third: None,
-        }
+        Triple::new(Some(first), Some(second), None)
     }
 
     // Three operands.
     fn three(first: Role, second: Role, third: Role) -> Roles
         ensures { result ≡ given (Some first) (Some second) (Some third) }
     {
-        Roles {
-            first: Some(first),
-            second: Some(second),
-            third: Some(third),
-        }
+        Triple::new(Some(first), Some(second), Some(third))
     }
 }
 
