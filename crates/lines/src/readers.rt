@@ -168,6 +168,7 @@ fn admit(draft: &Draft, key: Keyword) -> Result<Keyword, Fault>
 fn read_item(draft: &Draft, key: Keyword, words: Words) -> Result<Item, Fault>
     ensures { result ≡ item_of (said draft.now) key (spelled words.entry) }
 {
+    // An arm a key, since that is what the format says: each kind of line has its own form.
     match key {
         Keyword::Sheet => Err(Fault::Many),
         Keyword::Var => read_variable(draft, words),
