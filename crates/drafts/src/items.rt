@@ -2,7 +2,7 @@
 use sheet::{Expression, Statement, Variable};
 
 // What a line adds to a sheet. An expression comes with its size.
-#[derive(Clone, Copy)]
+#[derive(Clone, Copy, Debug, PartialEq, Eq)]
 pub enum Item {
     Variable(Variable),
     Expression(Expression, u32),

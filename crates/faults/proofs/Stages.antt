@@ -14,7 +14,7 @@ use Rattle.lines.specs.declared.items.Fault.{Fault}
 use Rattle.drafts.specs.declared.items.Item.{Item}
 use Rattle.lines.specs.declared.items.Keyword.{Keyword}
 use Rattle.lines.specs.declared.items.Role.{Role}
-use Rattle.lines.specs.declared.items.Roles.{Roles}
+use Rattle.lines.specs.Forms.{Roles}
 use Rattle.drafts.specs.Said.{Said}
 use Rattle.lines.specs.Forms.{expression_roles, statement_roles, expression_with, statement_with, expression_named, statement_named}
 use Rattle.lines.specs.Reading as reading

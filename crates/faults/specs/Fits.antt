@@ -9,9 +9,9 @@ use Rattle.sheet.specs.Limits.{name_of}
 use Rattle.lines.specs.declared.items.Fault.{Fault}
 use Rattle.drafts.specs.declared.items.Item.{Item}
 use Rattle.lines.specs.declared.items.Keyword.{Keyword}
-use Rattle.lines.specs.declared.items.Operands.{Operands}
+use Rattle.lines.specs.Forms.{Operands}
 use Rattle.lines.specs.declared.items.Role.{Role}
-use Rattle.lines.specs.declared.items.Roles.{Roles}
+use Rattle.lines.specs.Forms.{Roles}
 use Rattle.drafts.specs.Said.{Said}
 use Rattle.lines.specs.Forms.{expression_roles, expression_with}
 use Rattle.lines.specs.Reading.{allowed, full, number_by, line_of}

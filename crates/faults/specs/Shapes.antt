@@ -4,7 +4,7 @@ use Rattle.sheet.specs.declared.parts.Expression.{Expression}
 use Rattle.sheet.specs.declared.parts.Statement.{Statement}
 use Rattle.lines.specs.declared.items.Keyword.{Keyword}
 use Rattle.lines.specs.declared.items.Role.{Role}
-use Rattle.lines.specs.declared.items.Roles.{Roles}
+use Rattle.lines.specs.Forms.{Roles}
 use Rattle.lines.specs.Forms.{expression_named, statement_named, expression_roles, statement_roles}
 use Rattle.lines.specs.Reading.{is_num, key_in, words_in}
 

@@ -7,8 +7,7 @@ use Rattle.lines.specs.declared.items.Fault.{Fault}
 use Rattle.lines.specs.declared.items.Keyword.{Keyword}
 use Rattle.drafts.specs.Said.{Said}
 use Rattle.lines.specs.Forms.{keyword_of}
-use Rattle.lines.specs.declared.items.Words.{Words}
-use Rattle.lines.specs.Reading.{Spells, Cut, then, admitted, item_of, key_in, words_in, line_of}
+use Rattle.lines.specs.Reading.{then, admitted, item_of, key_in, words_in, line_of}
 use Rattle.std.specs.Option.{ok_or}
 
 -- there is always a piece
@@ -36,10 +35,10 @@ line_read d s t u w p q e z f short key =
     keyed_line d t.now w.now q short at.1 at.0.bytes at.2 at.3
     ∙ ap (λ (x : Bor (List ℕ)). then (ok_or (keyword_of w.now) Fault.Key) (λ k. then (admitted d k) (λ k. item_of d k (left 32 x.now q)))) (sym (f ∙ e))
 
--- words that were cut
-pub cut_some : (o : Option Words) (r : Words) (ws : List (List ℕ)) → Ok r ≡ ok_or o Fault.Form → Cut o ws → Spells r ws
-cut_some None r ws e h = absurd (let z : ◌≡◌ {A = ℕ} 0 1 = cc in omega arith)
-cut_some (Some s) r ws e h = let same : s ≡ r = cc in subst (λ x. Spells x ws) same h
+-- what holds of an option holds of the value that was taken out of it
+pub taken_out : {A E : Type 0} (P : Option A → Type 0) (o : Option A) (x : A) (f : E) → Ok x ≡ ok_or o f → P o → P (Some x)
+taken_out P None x f e h = absurd (let z : ◌≡◌ {A = ℕ} 0 1 = cc in omega arith)
+taken_out P (Some y) x f e h = let same : y ≡ x = cc in subst (λ z. P (Some z)) same h
 
 -- a line whose key is k and is admitted
 pub line_admitted : (d : Said) (o p : Option Keyword) (k j : Keyword) (ws : List (List ℕ)) → o ≡ p → Ok k ≡ ok_or o Fault.Key → Ok j ≡ admitted d k

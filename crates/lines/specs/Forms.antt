@@ -1,7 +1,6 @@
 -- Operations: their words, what their operands stand for, and what they make of them. Assumes nothing.
 -- An operation is given as an expression or a statement whose operands are 0.
 use Rattle.std.specs.Prelude.{ℕ, if◌then◌else◌, List, [], ◌∷◌, Some, None, codes, Option}
-use Rattle.std.specs.Borrow.{Bor}
 use Rattle.std.specs.Str.{bytes_eq}
 use Rattle.sheet.specs.declared.parts.Operator.TheVariants as Operator
 use Rattle.sheet.specs.declared.parts.Expression.{Expression}
@@ -10,17 +9,11 @@ use Rattle.sheet.specs.declared.parts.Statement.{Statement}
 use Rattle.sheet.specs.declared.parts.Statement.TheVariants.{True, False, Empty, More, Is, And, If, Next, Always, Halt, Len, Gets, Chop, For, While, Request}
 use Rattle.lines.specs.declared.items.Keyword.{Keyword}
 use Rattle.lines.specs.declared.items.Role.{Role}
-use Rattle.lines.specs.declared.items.Roles.{Roles}
-use Rattle.lines.specs.declared.items.Operands.{Operands}
+use Rattle.lines.specs.declared.items.Triple.{Triple}
 
 -- x where w is the word v, else y
 abbrev pub when : {X : Type 0} → List ℕ → List ℕ → X → X → X
 when w v x y = if bytes_eq w v then x else y
-
--- what a table has for the word w: what stands beside w, where w is first
-abbrev pub looked_up : {X : Type 0} → List (Bor (List ℕ) × X) → List ℕ → Option X
-looked_up [] w = None
-looked_up (r ∷ rs) w = when w r.0.now (Some r.1) (looked_up rs w)
 
 -- the key that a word names
 abbrev pub keyword_of : List ℕ → Option Keyword
@@ -79,6 +72,14 @@ statement_named (op ∷ a ∷ b ∷ c ∷ []) = triple_statement op
 statement_named (op ∷ a ∷ b ∷ c ∷ e ∷ ws) = None
 
 -- the roles of the words after an operation; none where there is no such word
+abbrev pub Roles : Type 0
+Roles = Triple (Option Role)
+
+-- the numbers of its operands; 0 for one that is absent
+abbrev pub Operands : Type 0
+Operands = Triple ℕ
+
+-- the roles a, b and c, in the order of their words
 abbrev pub roles : Option Role → Option Role → Option Role → Roles
 roles a b c = record { first = a; second = b; third = c }
 

@@ -13,29 +13,27 @@ use Rattle.lines.specs.declared.items.Fault.{Fault}
 use Rattle.drafts.specs.declared.items.Item.{Item}
 use Rattle.lines.specs.declared.items.Keyword.{Keyword}
 use Rattle.lines.specs.declared.items.Role.{Role}
-use Rattle.lines.specs.declared.items.Roles.{Roles}
-use Rattle.lines.specs.declared.items.Operands.{Operands}
 use Rattle.lines.specs.declared.items.Words.{Words}
 use Rattle.lines.specs.declared.items.Words.TheVariants.{One, Two, Three, Four}
 use Rattle.drafts.specs.Said.{Said}
-use Rattle.lines.specs.Forms.{keyword_of, expression_named, statement_named, expression_roles, statement_roles, expression_with, statement_with}
+use Rattle.lines.specs.Forms.{Roles, Operands, keyword_of, expression_named, statement_named, expression_roles, statement_roles, expression_with, statement_with}
 
 -- one step after another, up to the first fault
 abbrev pub then : {A B E : Type 0} → Result A E → (A → Result B E) → Result B E
 then (Ok x) f = f x
 then (Err e) f = Err e
 
--- r has the words ws
-abbrev pub Spells : Words → List (List ℕ) → Type 0
-Spells (One a) ws = ws ≡ a.now ∷ []
-Spells (Two a b) ws = ws ≡ a.now ∷ b.now ∷ []
-Spells (Three a b c) ws = ws ≡ a.now ∷ b.now ∷ c.now ∷ []
-Spells (Four a b c d) ws = ws ≡ a.now ∷ b.now ∷ c.now ∷ d.now ∷ []
+-- the words of a line, as lists of bytes
+abbrev pub spelled : Words → List (List ℕ)
+spelled (One a) = a.now ∷ []
+spelled (Two a b) = a.now ∷ b.now ∷ []
+spelled (Three a b c) = a.now ∷ b.now ∷ c.now ∷ []
+spelled (Four a b c d) = a.now ∷ b.now ∷ c.now ∷ d.now ∷ []
 
 -- o has the words ws; there is none where they are more than four
 abbrev pub Cut : Option Words → List (List ℕ) → Type 0
 Cut None ws = 4 < length ws
-Cut (Some r) ws = Spells r ws
+Cut (Some r) ws = ws ≡ spelled r
 
 -- a line with this key may stand here: no later key stood before, and neither `var` nor `stmt` is skipped
 abbrev pub allowed : Said → Keyword → Bool

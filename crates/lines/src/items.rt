@@ -1,4 +1,5 @@
 // What a line is made of, and what can be wrong with it.
+ghost use Rattle.std.specs.Prelude.{◌≡◌};
 
 // What is wrong with a line. A number says which word of the line is meant, counted from 1 after the `=`.
 #[derive(Clone, Copy, Debug, PartialEq, Eq)]
@@ -39,24 +40,35 @@ pub enum Role {
     Statement,
 }
 
-// The roles of the words after an operation; none where there is no such word.
-#[derive(Clone, Copy)]
-pub struct Roles {
-    pub first: Option<Role>,
-    pub second: Option<Role>,
-    pub third: Option<Role>,
+// One thing for each of the three words after an operation.
+#[derive(Clone, Copy, Debug, PartialEq, Eq)]
+pub struct Triple<T> {
+    pub first: T,
+    pub second: T,
+    pub third: T,
 }
+
+impl<T> Triple<T> {
+    // The three, in the order of their words.
+    pub(crate) fn new(first: T, second: T, third: T) -> Triple<T>
+        ensures { result ≡ record { first = first; second = second; third = third } }
+    {
+        Triple {
+            first,
+            second,
+            third,
+        }
+    }
+}
+
+// The roles of the words after an operation; none where there is no such word.
+pub type Roles = Triple<Option<Role>>;
 
 // The numbers of the operands. One that is absent is 0, and no option, since an operation takes those that it has, and would have to ask again.
-#[derive(Clone, Copy)]
-pub struct Operands {
-    pub first: u16,
-    pub second: u16,
-    pub third: u16,
-}
+pub type Operands = Triple<u16>;
 
 // The words of a line, one to four, as parts of the line itself.
-#[derive(Clone, Copy)]
+#[derive(Clone, Copy, Debug, PartialEq, Eq)]
 pub enum Words<'a> {
     One(&'a [u8]),
     Two(&'a [u8], &'a [u8]),

@@ -9,5 +9,5 @@ mod shapes;
 mod sizes;
 mod words;
 
-pub use crate::items::{Fault, Keyword, Operands, Role, Roles, Words};
+pub use crate::items::{Fault, Keyword, Operands, Role, Roles, Triple, Words};
 pub use crate::readers::read_line;

@@ -1,9 +1,9 @@
 // The operands of a line, with their faults in the order of their numbers.
-ghost use Rattle.std.specs.Prelude.{◌≡◌, ℕ, List};
+ghost use Rattle.std.specs.Prelude.{◌≡◌};
 ghost use Rattle.drafts.specs.Said.{said};
-ghost use Rattle.lines.specs.Reading.{Spells, word_in, numeral, resolved, there, operands};
+ghost use Rattle.lines.specs.Reading.{spelled, word_in, numeral, resolved, there, operands};
 
-use crate::items::{Fault, Operands, Role, Roles, Words};
+use crate::items::{Fault, Operands, Role, Roles, Triple, Words};
 use drafts::Draft;
 
 // The largest number of an operand.
@@ -66,23 +66,23 @@ impl<'a> Operand<'a> {
 
 // The operands in the second, third and fourth word of a line.
 pub(crate) fn read_operands(draft: &Draft, roles: Roles, words: Words) -> Result<Operands, Fault>
-    ensures { (ws : List (List ℕ)) → Spells words.entry ws → result ≡ operands (said draft.now) roles (word_in ws 1) (word_in ws 2) (word_in ws 3) }
+    ensures { result ≡ operands (said draft.now) roles (word_in (spelled words.entry) 1) (word_in (spelled words.entry) 2) (word_in (spelled words.entry) 3) }
 {
-    let (a, b, c) = words.rest();
+    let rest = words.rest();
     let a = Operand {
         at: 2,
         role: roles.first,
-        word: a,
+        word: rest.first,
     };
     let b = Operand {
         at: 3,
         role: roles.second,
-        word: b,
+        word: rest.second,
     };
     let c = Operand {
         at: 4,
         role: roles.third,
-        word: c,
+        word: rest.third,
     };
     let (i, j, k) = (a.numeral()?, b.numeral()?, c.numeral()?);
     let (i, j, k) = (
@@ -90,9 +90,9 @@ pub(crate) fn read_operands(draft: &Draft, roles: Roles, words: Words) -> Result
         b.resolve(draft, j)?,
         c.resolve(draft, k)?,
     );
-    Ok(Operands {
-        first: a.look_there(draft, i)?,
-        second: b.look_there(draft, j)?,
-        third: c.look_there(draft, k)?,
-    })
+    Ok(Triple::new(
+        a.look_there(draft, i)?,
+        b.look_there(draft, j)?,
+        c.look_there(draft, k)?,
+    ))
 }

@@ -1,7 +1,7 @@
 // What a line says, or its fault.
-ghost use Rattle.std.specs.Prelude.{◌≡◌, ℕ, List};
+ghost use Rattle.std.specs.Prelude.{◌≡◌};
 ghost use Rattle.drafts.specs.Said.{said};
-ghost use Rattle.lines.specs.Reading.{Spells, allowed, full, sized, operation_of, constant, expression_of, statement_of, bound, upward, fresh, variable_of, run_of, admitted, item_of, line_of};
+ghost use Rattle.lines.specs.Reading.{spelled, allowed, full, sized, operation_of, constant, expression_of, statement_of, bound, upward, fresh, variable_of, run_of, admitted, item_of, line_of};
 
 use crate::forms;
 use crate::items::{Fault, Keyword, Role, Words};
@@ -11,7 +11,7 @@ use crate::sizes::expression_size;
 use crate::words::cut_words;
 use drafts::{Draft, Item};
 use sheet::{Expression, Name, Variable};
-use text::{Reader, same};
+use text::Reader;
 
 // The longest line, in bytes.
 const LONGEST_LINE: usize = 64;
@@ -34,7 +34,7 @@ fn with_size(draft: &Draft, e: Expression) -> Result<Item, Fault>
 
 // The operation that the words of a line name, with the operands that they tell.
 fn read_operation<O: Operation>(draft: &Draft, words: Words) -> Result<O, Fault>
-    ensures { (ws : List (List ℕ)) → Spells words.entry ws → result ≡ operation_of O.named O.roles O.with (said draft.now) ws }
+    ensures { result ≡ operation_of O.named O.roles O.with (said draft.now) (spelled words.entry) }
 {
     let operation = O::named(words).ok_or(Fault::Form)?;
     let operands = read_operands(draft, operation.roles(), words)?;
@@ -51,17 +51,17 @@ fn read_constant(draft: &Draft, word: &[u8]) -> Result<Item, Fault>
 
 // An `expr` line.
 fn read_expression(draft: &Draft, words: Words) -> Result<Item, Fault>
-    ensures { (ws : List (List ℕ)) → Spells words.entry ws → result ≡ expression_of (said draft.now) ws }
+    ensures { result ≡ expression_of (said draft.now) (spelled words.entry) }
 {
     match words {
-        Words::Two(op, a) if same(op, b"num") => read_constant(draft, a),
+        Words::Two(b"num", a) => read_constant(draft, a),
         _ => with_size(draft, read_operation(draft, words)?),
     }
 }
 
 // A `stmt` line.
 fn read_statement(draft: &Draft, words: Words) -> Result<Item, Fault>
-    ensures { (ws : List (List ℕ)) → Spells words.entry ws → result ≡ statement_of (said draft.now) ws }
+    ensures { result ≡ statement_of (said draft.now) (spelled words.entry) }
 {
     Ok(Item::Statement(read_operation(draft, words)?))
 }
@@ -95,7 +95,7 @@ fn fresh_name(draft: &Draft, word: &[u8]) -> Result<Name, Fault>
 
 // A `var` line.
 fn read_variable(draft: &Draft, words: Words) -> Result<Item, Fault>
-    ensures { (ws : List (List ℕ)) → Spells words.entry ws → result ≡ variable_of (said draft.now) ws }
+    ensures { result ≡ variable_of (said draft.now) (spelled words.entry) }
 {
     let Words::Three(word, a, b) = words else {
         return Err(Fault::Form);
@@ -109,7 +109,7 @@ fn read_variable(draft: &Draft, words: Words) -> Result<Item, Fault>
 
 // A `run` line.
 fn read_run(draft: &Draft, words: Words) -> Result<Item, Fault>
-    ensures { (ws : List (List ℕ)) → Spells words.entry ws → result ≡ run_of (said draft.now) ws }
+    ensures { result ≡ run_of (said draft.now) (spelled words.entry) }
 {
     let Words::One(word) = words else {
         return Err(Fault::Form);
@@ -126,15 +126,15 @@ fn may_stand(draft: &Draft, key: Keyword) -> bool
 {
     let tables = &draft.tables;
     match key {
-        Keyword::Sheet => tables.variables.len() == 0,
-        Keyword::Var => tables.expressions.len() == 0
-            && tables.statements.len() == 0
+        Keyword::Sheet => tables.variables.is_empty(),
+        Keyword::Var => tables.expressions.is_empty()
+            && tables.statements.is_empty()
             && draft.run.is_none(),
-        Keyword::Expr => tables.variables.len() > 0
-            && tables.statements.len() == 0
+        Keyword::Expr => !tables.variables.is_empty()
+            && tables.statements.is_empty()
             && draft.run.is_none(),
-        Keyword::Stmt => tables.variables.len() > 0 && draft.run.is_none(),
-        Keyword::Run => tables.variables.len() > 0 && tables.statements.len() > 0,
+        Keyword::Stmt => !tables.variables.is_empty() && draft.run.is_none(),
+        Keyword::Run => !tables.variables.is_empty() && !tables.statements.is_empty(),
     }
 }
 
@@ -166,8 +166,9 @@ fn admit(draft: &Draft, key: Keyword) -> Result<Keyword, Fault>
 
 // A line with this key and these words.
 fn read_item(draft: &Draft, key: Keyword, words: Words) -> Result<Item, Fault>
-    ensures { (ws : List (List ℕ)) → Spells words.entry ws → result ≡ item_of (said draft.now) key ws }
+    ensures { result ≡ item_of (said draft.now) key (spelled words.entry) }
 {
+    // An arm a key, since that is what the format says: each kind of line has its own form.
     match key {
         Keyword::Sheet => Err(Fault::Many),
         Keyword::Var => read_variable(draft, words),
@@ -185,9 +186,7 @@ pub fn read_line(draft: &Draft, line: &[u8]) -> Result<Item, Fault>
         return Err(Fault::Long);
     }
     let mut reader = Reader::new(line);
-    let Some(word) = reader.key() else {
-        return Err(Fault::Key);
-    };
+    let word = reader.key().ok_or(Fault::Key)?;
     let key = admit(draft, forms::keyword(word).ok_or(Fault::Key)?)?;
     let words = cut_words(&mut reader).ok_or(Fault::Form)?;
     read_item(draft, key, words)

@@ -1,12 +1,9 @@
 // Operations: the words that name them, what their operands stand for, and what is made of them.
 ghost use Rattle.std.specs.Prelude.{◌≡◌, ℕ, List, None, Some, Option};
-ghost use Rattle.lines.specs.declared.items.Roles.{Roles};
-ghost use Rattle.lines.specs.declared.items.Operands.{Operands};
-ghost use Rattle.lines.specs.Reading.{Spells};
-ghost use Rattle.lines.specs.Forms.{roles as given, expression_named, statement_named, expression_roles, statement_roles, expression_with, statement_with};
+ghost use Rattle.lines.specs.Reading.{spelled};
+ghost use Rattle.lines.specs.Forms.{Roles, Operands, roles as given, expression_named, statement_named, expression_roles, statement_roles, expression_with, statement_with};
 
-use crate::forms::look_up;
-use crate::items::{Operands, Role, Roles, Words};
+use crate::items::{Operands, Role, Roles, Triple, Words};
 use sheet::{Expression, Operator, Statement};
 
 impl Roles {
@@ -14,44 +11,28 @@ impl Roles {
     fn none() -> Roles
         ensures { result ≡ given None None None }
     {
-        Roles {
-            first: None,
-            second: None,
-            third: None,
-        }
+        Triple::new(None, None, None)
     }
 
     // One operand.
     fn one(first: Role) -> Roles
         ensures { result ≡ given (Some first) None None }
     {
-        Roles {
-            first: Some(first),
-            second: None,
-            third: None,
-        }
+        Triple::new(Some(first), None, None)
     }
 
     // Two operands.
     fn two(first: Role, second: Role) -> Roles
         ensures { result ≡ given (Some first) (Some second) None }
     {
-        Roles {
-            first: Some(first),
-            second: Some(second),
-            third: None,
-        }
+        Triple::new(Some(first), Some(second), None)
     }
 
     // Three operands.
     fn three(first: Role, second: Role, third: Role) -> Roles
         ensures { result ≡ given (Some first) (Some second) (Some third) }
     {
-        Roles {
-            first: Some(first),
-            second: Some(second),
-            third: Some(third),
-        }
+        Triple::new(Some(first), Some(second), Some(third))
     }
 }
 
@@ -66,7 +47,7 @@ pub(crate) trait Operation: Copy {
     ghost with: { Self → Operands → Self };
 
     fn named(words: Words) -> Option<Self>
-        ensures { (ws : List (List ℕ)) → Spells words.entry ws → result ≡ named ws };
+        ensures { result ≡ named (spelled words.entry) };
 
     fn roles(self) -> Roles
         ensures { result ≡ roles self };
@@ -84,24 +65,17 @@ impl Operation for Expression {
 
     fn named(words: Words) -> Option<Expression> {
         match words {
-            Words::One(op) => look_up(&[(b"last", Expression::Last)], op),
-            Words::Two(op, _) => look_up(
-                &[(b"val", Expression::Val(0)), (b"not", Expression::Not(0))],
-                op,
-            ),
-            Words::Three(op, _, _) => look_up(
-                &[
-                    (b"add", Expression::Pair(Operator::Add, 0, 0)),
-                    (b"sub", Expression::Pair(Operator::Sub, 0, 0)),
-                    (b"mul", Expression::Pair(Operator::Mul, 0, 0)),
-                    (b"eq", Expression::Pair(Operator::Eq, 0, 0)),
-                    (b"lt", Expression::Pair(Operator::Lt, 0, 0)),
-                    (b"both", Expression::Pair(Operator::Both, 0, 0)),
-                    (b"either", Expression::Pair(Operator::Either, 0, 0)),
-                ],
-                op,
-            ),
-            Words::Four(_, _, _, _) => None,
+            Words::One(b"last") => Some(Expression::Last),
+            Words::Two(b"val", _) => Some(Expression::Val(0)),
+            Words::Two(b"not", _) => Some(Expression::Not(0)),
+            Words::Three(b"add", _, _) => Some(Expression::Pair(Operator::Add, 0, 0)),
+            Words::Three(b"sub", _, _) => Some(Expression::Pair(Operator::Sub, 0, 0)),
+            Words::Three(b"mul", _, _) => Some(Expression::Pair(Operator::Mul, 0, 0)),
+            Words::Three(b"eq", _, _) => Some(Expression::Pair(Operator::Eq, 0, 0)),
+            Words::Three(b"lt", _, _) => Some(Expression::Pair(Operator::Lt, 0, 0)),
+            Words::Three(b"both", _, _) => Some(Expression::Pair(Operator::Both, 0, 0)),
+            Words::Three(b"either", _, _) => Some(Expression::Pair(Operator::Either, 0, 0)),
+            _ => None,
         }
     }
 
@@ -133,37 +107,23 @@ impl Operation for Statement {
 
     fn named(words: Words) -> Option<Statement> {
         match words {
-            Words::One(op) => look_up(
-                &[
-                    (b"true", Statement::True),
-                    (b"false", Statement::False),
-                    (b"empty", Statement::Empty),
-                    (b"more", Statement::More),
-                ],
-                op,
-            ),
-            Words::Two(op, _) => look_up(
-                &[
-                    (b"next", Statement::Next(0)),
-                    (b"always", Statement::Always(0)),
-                    (b"halt", Statement::Halt(0)),
-                    (b"len", Statement::Len(0)),
-                    (b"request", Statement::Request(0)),
-                ],
-                op,
-            ),
-            Words::Three(op, _, _) => look_up(
-                &[
-                    (b"is", Statement::Is(0, 0)),
-                    (b"and", Statement::And(0, 0)),
-                    (b"gets", Statement::Gets(0, 0)),
-                    (b"chop", Statement::Chop(0, 0)),
-                    (b"for", Statement::For(0, 0)),
-                    (b"while", Statement::While(0, 0)),
-                ],
-                op,
-            ),
-            Words::Four(op, _, _, _) => look_up(&[(b"if", Statement::If(0, 0, 0))], op),
+            Words::One(b"true") => Some(Statement::True),
+            Words::One(b"false") => Some(Statement::False),
+            Words::One(b"empty") => Some(Statement::Empty),
+            Words::One(b"more") => Some(Statement::More),
+            Words::Two(b"next", _) => Some(Statement::Next(0)),
+            Words::Two(b"always", _) => Some(Statement::Always(0)),
+            Words::Two(b"halt", _) => Some(Statement::Halt(0)),
+            Words::Two(b"len", _) => Some(Statement::Len(0)),
+            Words::Two(b"request", _) => Some(Statement::Request(0)),
+            Words::Three(b"is", _, _) => Some(Statement::Is(0, 0)),
+            Words::Three(b"and", _, _) => Some(Statement::And(0, 0)),
+            Words::Three(b"gets", _, _) => Some(Statement::Gets(0, 0)),
+            Words::Three(b"chop", _, _) => Some(Statement::Chop(0, 0)),
+            Words::Three(b"for", _, _) => Some(Statement::For(0, 0)),
+            Words::Three(b"while", _, _) => Some(Statement::While(0, 0)),
+            Words::Four(b"if", _, _, _) => Some(Statement::If(0, 0, 0)),
+            _ => None,
         }
     }
 

@@ -1,21 +1,21 @@
 // The words of a line.
-ghost use Rattle.std.specs.Prelude.{◌≡◌, ◌≤◌, ℕ, List, length};
+ghost use Rattle.std.specs.Prelude.{◌≡◌, ◌≤◌, length};
 ghost use Rattle.text.specs.Cut.{left};
-ghost use Rattle.lines.specs.Reading.{Spells, Cut, word_in};
+ghost use Rattle.lines.specs.Reading.{spelled, Cut, word_in};
 
-use crate::items::Words;
+use crate::items::{Triple, Words};
 use text::Reader;
 
 impl<'a> Words<'a> {
     // The words after the first; no bytes where there is none.
-    pub(crate) fn rest(self) -> (&'a [u8], &'a [u8], &'a [u8])
-        ensures { (ws : List (List ℕ)) → Spells self.entry ws → (result.0.now ≡ word_in ws 1) × (result.1.now ≡ word_in ws 2) × (result.2.now ≡ word_in ws 3) }
+    pub(crate) fn rest(self) -> Triple<&'a [u8]>
+        ensures { (result.first.now ≡ word_in (spelled self.entry) 1) × (result.second.now ≡ word_in (spelled self.entry) 2) × (result.third.now ≡ word_in (spelled self.entry) 3) }
     {
         match self {
-            Words::One(_) => (b"", b"", b""),
-            Words::Two(_, a) => (a, b"", b""),
-            Words::Three(_, a, b) => (a, b, b""),
-            Words::Four(_, a, b, c) => (a, b, c),
+            Words::One(_) => Triple::new(b"", b"", b""),
+            Words::Two(_, a) => Triple::new(a, b"", b""),
+            Words::Three(_, a, b) => Triple::new(a, b, b""),
+            Words::Four(_, a, b, c) => Triple::new(a, b, c),
         }
     }
 }
@@ -35,8 +35,5 @@ pub(crate) fn cut_words<'a>(reader: &mut Reader<'a>) -> Option<Words<'a>>
     let Some(d) = reader.word() else {
         return Some(Words::Three(a, b, c));
     };
-    match reader.word() {
-        Some(_) => None,
-        None => Some(Words::Four(a, b, c, d)),
-    }
+    reader.word().is_none().then_some(Words::Four(a, b, c, d))
 }

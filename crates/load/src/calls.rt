@@ -48,10 +48,7 @@ impl Loader {
         ensures same { self.new.sheet ≡ self.old.sheet }
     {
         read_text(&mut self.draft, text).ok()?;
-        if k < self.draft.tables.variables.len() {
-            name_at(text, k + 1)
-        } else {
-            None
-        }
+        self.draft.tables.variables.get(k)?;
+        name_at(text, k + 1)
     }
 }

@@ -6,7 +6,7 @@ ghost use Rattle.load.specs.Loading.{Drafted};
 ghost use Rattle.std.specs.Prelude.{◌≡◌, ◌+◌, ◌≤◌, length};
 
 use drafts::Draft;
-use text::{Reader, same};
+use text::Reader;
 use verdict::Refusal;
 
 // The longest text, in bytes.
@@ -42,7 +42,7 @@ pub(crate) fn read_text(draft: &mut Draft, text: &[u8]) -> Result<u16, Refusal>
     }
     let mut reader = Reader::new(lines);
     let first = reader.line().ok_or(Refusal::Header)?;
-    if !same(first, b"sheet=2") {
+    if first != b"sheet=2".as_slice() {
         return Err(Refusal::Header);
     }
     draft.clear();

@@ -9,8 +9,8 @@ use Rattle.sheet.specs.Writing.{name_at}
 use Rattle.sheet.specs.Limits.{name_of, VariablesOk}
 use Rattle.lines.specs.declared.items.Fault.{Fault}
 use Rattle.lines.specs.declared.items.Role.{Role}
-use Rattle.lines.specs.declared.items.Roles.{Roles}
-use Rattle.lines.specs.declared.items.Operands.{Operands}
+use Rattle.lines.specs.Forms.{Roles}
+use Rattle.lines.specs.Forms.{Operands}
 use Rattle.drafts.specs.Said.{Said}
 use Rattle.lines.specs.Reading.{numeral, number_by, resolved, there, operands}
 use Rattle.verdict.proofs.Steps.{same_ok, then_ok, or_ok, if_ok, then_is}

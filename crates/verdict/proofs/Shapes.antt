@@ -10,7 +10,7 @@ use Rattle.sheet.specs.declared.parts.Statement.{Statement}
 use Rattle.sheet.specs.declared.parts.Statement.TheVariants.{True, False, Empty, More, Is, And, If, Next, Always, Halt, Len, Gets, Chop, For, While, Request}
 use Rattle.sheet.specs.Writing.{operator_word, expression_words, statement_words}
 use Rattle.sheet.specs.Limits.{expression_ok, statement_ok}
-use Rattle.lines.specs.declared.items.Operands.{Operands}
+use Rattle.lines.specs.Forms.{Operands}
 use Rattle.drafts.specs.Said.{Said}
 use Rattle.lines.specs.Forms.{when, bare_expression, single_expression, double_expression, bare_statement, single_statement, double_statement, triple_statement, expression_roles, statement_roles, expression_with, statement_with}
 use Rattle.verdict.proofs.Steps.{clash_none, same_some}
