@@ -8,7 +8,7 @@ use lines::Fault;
 use std::error::Error;
 use std::fmt;
 
-// The number of a line's fault.
+// The number of a line's fault. A function and no `From`, which would not say what is told.
 fn fault_number(fault: Fault) -> u8
     ensures { result ≡ number fault }
 {
