@@ -21,7 +21,7 @@ impl Nowhere {
     }
 }
 
-// What a recorder that keeps nothing is where none is named.
+// What a recorder that keeps nothing is where none is named. That it starts with width 1 is said by each that makes a recorder: a word for it would be no shorter.
 impl Default for Nowhere {
     // The one that `new` makes.
     fn default() -> Nowhere
