@@ -69,6 +69,7 @@ pub(crate) fn read_operands(draft: &Draft, roles: Roles, words: Words) -> Result
     ensures { result ≡ operands (said draft.now) roles (word_in (spelled words.entry) 1) (word_in (spelled words.entry) 2) (word_in (spelled words.entry) 3) }
 {
     let rest = words.rest();
+    // Three literals, since a call with a number, a role and a word would name none of them.
     let a = Operand {
         at: 2,
         role: roles.first,
