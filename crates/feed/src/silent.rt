@@ -4,7 +4,7 @@ ghost use Rattle.std.specs.Prelude.{None as Nothing, refl};
 use crate::feed::Feed;
 
 // Has no reading anywhere.
-#[derive(Clone, Copy, Debug, Default, PartialEq, Eq)]
+#[derive(Clone, Copy, Debug, PartialEq, Eq)]
 pub struct Silent;
 
 // What silence means.
