@@ -12,7 +12,7 @@ use Rattle.meaning.specs.Intervals.{Setting, fits}
 use Rattle.meaning.specs.Work.{Work, Outcome, stops, goes, unchanged, changed, also, and_then, has_duty, has_opened}
 use Rattle.meaning.specs.Effects.{most_duties, most_spans, with_value, with_end, with_duty, with_later, with_span, if_room, give_by, put_by}
 use Rattle.meaning.specs.Rules.{visit}
-use Rattle.meaning.specs.Passes.{visit_or, visit_duties, pass_fuel}
+use Rattle.meaning.specs.Passes.{visit_or, visit_duties, visit_duties_else, pass_fuel}
 use Rattle.meaning.specs.Runs.{kept_by, going_on, next_work, recorded, Open, start, onward}
 use Rattle.meaning.specs.Laws.{Roomy, FuelSuffices}
 use Rattle.meaning.proofs.Lists.{longer, nth_within}
@@ -103,12 +103,21 @@ module _ (S : Setting) (k extra : ℕ) where
       ∙ or_same (slice_get w.duties i) (visit_duties S k (f + extra) (suc i)) (visit_duties S k f (suc i)) w h
       (λ d e u g. more_fuel f (suc i) u (omega (arith, nth_within w.duties i d e, h.duties)) (omega arith) g)
 
+-- with a visit left for each place up to the limit, and one more, the fuel doesn't run out
+module _ (S : Setting) (k : ℕ) (o : Outcome) where
+  never_out : (f i : ℕ) (w : Work) → i ≤ most_duties → most_duties < f + i → Roomy w → visit_duties_else o S k f i w ≡ visit_duties S k f i w
+  never_out zero i w l m h = absurd (omega arith)
+  never_out (suc f) i w l m h =
+      or_same S k 0 (slice_get w.duties i) (visit_duties_else o S k f (suc i)) (visit_duties S k f (suc i)) w h
+      (λ d e u g. never_out f (suc i) u (omega (arith, nth_within w.duties i d e, h.duties)) (omega arith) g)
+
 fuel_is : most_duties < pass_fuel + 0
 unfolding pass_fuel
 fuel_is = omega arith
 
 pub fuel_suffices : FuelSuffices
 fuel_suffices = record {
+  never = λ S k o w h. never_out S k o pass_fuel 0 w (omega arith) fuel_is h;
   enough = λ S k extra w h. more_fuel S k extra pass_fuel 0 w (omega arith) fuel_is h;
   started = λ S r w o. open_roomy o;
   passed = λ S k w u c h e. subst (λ (z : Outcome). OfWork Roomy z) e (kept_pass S Roomy (roomy_kept S) k w h);

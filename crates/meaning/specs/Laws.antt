@@ -6,9 +6,9 @@ use Rattle.feed.specs.Readings.{SameReadings}
 use Rattle.meaning.specs.declared.parts.Stop.TheVariants.{Contradiction}
 use Rattle.meaning.specs.Intervals.{Setting, under, States}
 use Rattle.meaning.specs.Holds.{Satisfies}
-use Rattle.meaning.specs.Work.{Work, goes}
+use Rattle.meaning.specs.Work.{Work, Outcome, goes}
 use Rattle.meaning.specs.Effects.{most_duties, most_spans}
-use Rattle.meaning.specs.Passes.{visit_duties, pass_fuel, pass}
+use Rattle.meaning.specs.Passes.{visit_duties, visit_duties_else, pass_fuel, pass}
 use Rattle.meaning.specs.Runs.{Step, Steps, Open, Finished, Stopped, Record}
 
 -- a state settles, in one way: it comes to some step, and to no other
@@ -42,9 +42,11 @@ pub record Roomy (w : Work) : Type 0 where
   pub later : length w.later ≤ most_duties
   pub spans : length w.spans ≤ most_spans
 
--- the fuel of a pass never runs out: more of it would change nothing, in every work that keeps within the limits,
--- as each work does that a state starts with or that a pass leaves
+-- the fuel of a pass never runs out, in every work that keeps within the limits, as each work does that a state starts with or that a pass leaves
 pub record FuelSuffices : Type 0 where
+  -- whatever outcome there were for fuel that runs out, the visits don't come to it
+  pub never : (S : Setting) (k : ℕ) (o : Outcome) (w : Work) → Roomy w → visit_duties_else o S k pass_fuel 0 w ≡ visit_duties S k pass_fuel 0 w
+  -- more fuel would change nothing
   pub enough : (S : Setting) (k extra : ℕ) (w : Work) → Roomy w → visit_duties S k (pass_fuel + extra) 0 w ≡ visit_duties S k pass_fuel 0 w
   pub started : (S : Setting) (r : List (List ℤ)) (w : Work) → Open S r w → Roomy w
   pub passed : (S : Setting) (k : ℕ) (w u : Work) (c : Bool) → Roomy w → pass S k w ≡ goes u c → Roomy u

@@ -20,6 +20,11 @@ abbrev pub visit_duties : Setting → ℕ → ℕ → ℕ → Work → Outcome
 visit_duties S k zero i w = stops Crowded
 visit_duties S k (suc fuel) i w = visit_or S k (slice_get w.duties i) (visit_duties S k fuel (suc i)) w
 
+-- the same visits, with this outcome where the fuel runs out
+abbrev pub visit_duties_else : Outcome → Setting → ℕ → ℕ → ℕ → Work → Outcome
+visit_duties_else o S k zero i w = o
+visit_duties_else o S k (suc fuel) i w = visit_or S k (slice_get w.duties i) (visit_duties_else o S k fuel (suc i)) w
+
 -- visits to spans
 abbrev pub visit_spans : List Span → Work → Outcome
 visit_spans [] w = unchanged w
