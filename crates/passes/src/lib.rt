@@ -9,3 +9,4 @@ mod spans;
 mod visits;
 
 pub use crate::marks::Marks;
+pub use crate::settling::settle;

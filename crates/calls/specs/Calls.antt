@@ -1,0 +1,109 @@
+-- What each call does: from what engine and recorder mean before it, to its answer and what they mean after it. Assumes nothing.
+use Rattle.std.specs.Prelude.{◌≡◌, ℕ, zero, suc, ◌+◌, ◌<◌, Bool, true, false, ◌&&◌, if◌then◌else◌, List, [], ◌∷◌, length, ℤ, Some, None, Ok, Err, Option, Result, ◌==◌, nat_le}
+use Rattle.std.specs.List.{slice_get}
+use Rattle.sheet.specs.Content.{Content}
+use Rattle.verdict.specs.declared.refusals.Refusal.{Refusal}
+use Rattle.verdict.specs.Verdict.{verdict}
+use Rattle.meaning.specs.declared.parts.Stop.{Stop}
+use Rattle.meaning.specs.Intervals.{Setting, under}
+use Rattle.meaning.specs.Work.{Work}
+use Rattle.meaning.specs.Runs.{first_work, Steps, stopped, recorded, finished as finishes}
+use Rattle.calls.specs.declared.parts.Denial.{Denial}
+use Rattle.calls.specs.declared.parts.Denial.TheVariants.{RunIsOpen, NoRunIsOpen, WrongStates, OtherRecorder, NoSuchState, NoSuchVariable}
+use Rattle.calls.specs.declared.parts.Ending.TheVariants.{Finished, Abandoned, Stopped}
+use Rattle.calls.specs.Meant.{Standing, idle, running, ended, Meant, stands, Recording, blank, with_state}
+use Rattle.calls.specs.Told.{Told, done, found, is_idle, is_open, is_finished, numbered, count, state, line, word, told_denial, told_refusal, told_stop, told_ending}
+
+-- a load with this verdict on its text, where no run is open: the sheet is held and the engine is idle, or nothing has changed
+abbrev pub LoadsBy : Result Content Refusal → Meant → Told → Meant → Type 0
+LoadsBy (Ok c) e a d = (a ≡ done) × (d ≡ record { sheet = c; standing = idle })
+LoadsBy (Err r) e a d = (a ≡ told_refusal r) × (d ≡ e)
+
+-- a load of this text: denied while a run is open
+abbrev pub LoadsIn : Standing → List ℕ → Meant → Told → Meant → Type 0
+LoadsIn idle text e a d = LoadsBy (verdict text) e a d
+LoadsIn (running k w) text e a d = (a ≡ numbered 20 (line 0 ∷ word 0 ∷ [])) × (d ≡ e)
+LoadsIn (ended x) text e a d = LoadsBy (verdict text) e a d
+
+abbrev pub Loads : List ℕ → Meant → Told → Meant → Type 0
+Loads text e a d = LoadsIn e.standing text e a d
+
+-- a run is opened: the recorder is started with the number of the sheet's variables, and its room is its capacity for them
+abbrev pub Opens : (ℕ → ℕ) → Meant → Told → Meant → Recording → Type 0
+Opens capacity e a d p =
+    (a ≡ done) × (d ≡ stands (running 0 (first_work e.sheet.run)) e) × (p ≡ blank (length e.sheet.variables) (capacity (length e.sheet.variables)))
+
+-- a begin, with a recorder of this capacity for each width: denied while a run is open
+abbrev pub BeginsIn : Standing → (ℕ → ℕ) → Meant → Recording → Told → Meant → Recording → Type 0
+BeginsIn idle capacity e q a d p = Opens capacity e a d p
+BeginsIn (running k w) capacity e q a d p = (a ≡ told_denial RunIsOpen) × (d ≡ e) × (p ≡ q)
+BeginsIn (ended x) capacity e q a d p = Opens capacity e a d p
+
+abbrev pub Begins : (ℕ → ℕ) → Meant → Recording → Told → Meant → Recording → Type 0
+Begins capacity e q a d p = BeginsIn e.standing capacity e q a d p
+
+-- up to so many states more, from the work w and the recorder q of an open run: what is answered, how the engine stands then, and the recorder
+pub data Settled (S : Setting) : ℕ → Recording → Work → Told → Standing → Recording → Type 0 where
+  -- no more states are asked for: the run goes on
+  all_asked : {q : Recording} {w : Work} → Settled S zero q w (is_open (count (length q.states) ∷ [])) (running (length q.states) w) q
+  -- there is no room: the run goes on
+  no_room : {n : ℕ} {q : Recording} {w : Work} → q.room ≡ 0 → Settled S (suc n) q w (numbered 34 (state (length q.states) ∷ [])) (running (length q.states) w) q
+  -- the next state meets a stop: it is not recorded, and the run has ended
+  met_stop : {n : ℕ} {q : Recording} {w : Work} {s : Stop} → 0 < q.room → Steps S (length q.states) w (stopped s)
+      → Settled S (suc n) q w (told_stop (length q.states) s) (ended (Stopped (record { stop = s; state = length q.states }))) q
+  -- the next state is recorded, and is the last: the run has finished
+  last_state : {n : ℕ} {q : Recording} {w : Work} {x : List ℤ} → 0 < q.room → Steps S (length q.states) w (finishes x)
+      → Settled S (suc n) q w (is_finished (count (length q.states + 1) ∷ [])) (ended Finished) (with_state x q)
+  -- the next state is recorded, and then the others
+  one_more : {n : ℕ} {q p : Recording} {w u : Work} {x : List ℤ} {a : Told} {s : Standing} → 0 < q.room → Steps S (length q.states) w (recorded x u)
+      → Settled S n (with_state x q) u a s p → Settled S (suc n) q w a s p
+
+-- why an open run with k states is not advanced by n states with the recorder q, if so
+abbrev pub not_advanced : ℕ → ℕ → Meant → Recording → Option Denial
+not_advanced n k e q =
+    if nat_le 1 n && nat_le n 1000
+    then if q.width == length e.sheet.variables && length q.states == k then None else Some OtherRecorder
+    else Some WrongStates
+
+-- an advance of an open run, with the work w at hand: denied, or the states are settled under the readings f
+abbrev pub AdvancesBy : Option Denial → (ℕ → ℕ → Option ℤ) → ℕ → Work → Meant → Recording → Told → Meant → Recording → Type 0
+AdvancesBy (Some x) f n w e q a d p = (a ≡ told_denial x) × (d ≡ e) × (p ≡ q)
+AdvancesBy None f n w e q a d p = Settled (under e.sheet f) n q w a d.standing p × (d.sheet ≡ e.sheet)
+
+-- an advance by n states: denied where no run is open
+abbrev pub AdvancesIn : Standing → (ℕ → ℕ → Option ℤ) → ℕ → Meant → Recording → Told → Meant → Recording → Type 0
+AdvancesIn idle f n e q a d p = (a ≡ told_denial NoRunIsOpen) × (d ≡ e) × (p ≡ q)
+AdvancesIn (running k w) f n e q a d p = AdvancesBy (not_advanced n k e q) f n w e q a d p
+AdvancesIn (ended x) f n e q a d p = (a ≡ told_denial NoRunIsOpen) × (d ≡ e) × (p ≡ q)
+
+abbrev pub Advances : (ℕ → ℕ → Option ℤ) → ℕ → Meant → Recording → Told → Meant → Recording → Type 0
+Advances f n e q a d p = AdvancesIn e.standing f n e q a d p
+
+-- an abandon: denied where no run is open
+abbrev pub AbandonsIn : Standing → Meant → Told → Meant → Type 0
+AbandonsIn idle e a d = (a ≡ told_denial NoRunIsOpen) × (d ≡ e)
+AbandonsIn (running k w) e a d = (a ≡ done) × (d ≡ stands (ended Abandoned) e)
+AbandonsIn (ended x) e a d = (a ≡ told_denial NoRunIsOpen) × (d ≡ e)
+
+abbrev pub Abandons : Meant → Told → Meant → Type 0
+Abandons e a d = AbandonsIn e.standing e a d
+
+-- what a report tells of an engine that stands so
+abbrev pub report_of : Standing → Told
+report_of idle = is_idle
+report_of (running k w) = is_open []
+report_of (ended x) = told_ending x
+
+-- what a look tells of a number, if there is one
+abbrev pub number_in : Option ℤ → Told
+number_in None = told_denial NoSuchVariable
+number_in (Some z) = found z
+
+-- what a look finds in a state, if there is one
+abbrev pub look_in : Option (List ℤ) → ℕ → Told
+look_in None x = told_denial NoSuchState
+look_in (Some s) x = number_in (slice_get s x)
+
+-- what a look at variable x of state k tells
+abbrev pub look_of : Recording → ℕ → ℕ → Told
+look_of q k x = look_in (slice_get q.states k) x

@@ -1,0 +1,42 @@
+-- What an engine and a recorder mean. Assumes nothing.
+use Rattle.std.specs.Prelude.{ℕ, ◌-◌, List, [], ◌∷◌, ◌++◌, length, ℤ}
+use Rattle.sheet.specs.Content.{Content}
+use Rattle.meaning.specs.Work.{Work}
+use Rattle.meaning.specs.Runs.{first_work}
+use Rattle.calls.specs.declared.parts.Ending.{Ending}
+
+-- how an engine stands
+pub data Standing : Type 0 where
+  -- no run was begun since its sheet was loaded
+  idle : Standing
+  -- a run goes on: so many states were recorded, and the next one starts with this work
+  running : ℕ → Work → Standing
+  -- the last run has ended
+  ended : Ending → Standing
+
+-- what an engine means: the sheet that it holds, and how it stands
+pub record Meant : Type 0 where
+  pub sheet : Content
+  pub standing : Standing
+
+-- an engine with the same sheet that stands so
+abbrev pub stands : Standing → Meant → Meant
+stands s e = record { sheet = e.sheet; standing = s }
+
+-- what a recorder means: a list of states, a width and a room
+pub record Recording : Type 0 where
+  pub states : List (List ℤ)
+  pub width : ℕ
+  pub room : ℕ
+
+-- what a recorder of a kind means, by what its kind says of it
+abbrev pub recording : {R : Type 0} → (R → List (List ℤ)) → (R → ℕ) → (R → ℕ) → R → Recording
+recording states breadth spare r = record { states = states r; width = breadth r; room = spare r }
+
+-- a recording without states, of this width and room
+abbrev pub blank : ℕ → ℕ → Recording
+blank n room = record { states = []; width = n; room = room }
+
+-- a recording with one state more
+abbrev pub with_state : List ℤ → Recording → Recording
+with_state x q = record { states = q.states ++ x ∷ []; width = q.width; room = q.room - 1 }

@@ -1,0 +1,12 @@
+// An engine.
+use calls::Condition;
+use load::Loader;
+use states::Settler;
+
+// Holds a sheet, the memory to settle its states, and the condition of its run. All memory is reserved when it is made.
+#[derive(Drop)]
+pub struct Engine {
+    pub(crate) loader: Loader,
+    pub(crate) settler: Settler,
+    pub(crate) condition: Condition,
+}

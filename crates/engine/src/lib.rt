@@ -1,0 +1,11 @@
+// Runs sheets: the six calls on an engine, and the law that every run keeps.
+#![tactic(auto)]
+
+mod advancing;
+mod calling;
+mod engine;
+mod events;
+mod looking;
+
+pub use crate::engine::Engine;
+pub use calls::{Cause, Condition, Denial, Ending, NotAdvanced, NotLoaded, Progress};
