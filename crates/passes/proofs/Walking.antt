@@ -63,3 +63,7 @@ module _ {T : Type 0} (items : Work → List T) (visited : T → Work → Outcom
       at_set marks i j (λ z. (x : T) × (slice_get (items u) z ≡ Some x) × ((v : Work) → Later u v → visited x v ≡ goes v false))
       (λ a. let r = m j a in (r.0, stays w u l j r.0 r.1, λ v k. r.2 v (later_trans l k)))
       (t, stays w u l i t e, n) q
+
+  -- marks that are right stay so in each later work
+  pub marked_later : ((w u : Work) → Later w u → (i : ℕ) (t : T) → slice_get (items w) i ≡ Some t → slice_get (items u) i ≡ Some t) → (w u : Work) (marks : List Bool) → Later w u → MarkedBy items visited w marks → MarkedBy items visited u marks
+  marked_later stays w u marks l m = λ i e. let r = m i e in (r.0, stays w u l i r.0 r.1, λ v k. r.2 v (later_trans l k))

@@ -1,10 +1,9 @@
 -- Marks on duties and spans whose visits can have no further effect in this state. Assumes nothing.
-use Rattle.std.specs.Prelude.{ℕ, Bool, true, false, List, Ok, Err, Result}
+use Rattle.std.specs.Prelude.{ℕ, Bool, true, false, List}
 use Rattle.sheet.specs.declared.parts.Statement.{Statement}
 use Rattle.sheet.specs.declared.parts.Statement.TheVariants.{True, False, Empty, More, Is, And, If, Next, Always, Halt, Len, Gets, Chop, For, While, Request}
-use Rattle.meaning.specs.declared.parts.Stop.{Stop}
 use Rattle.meaning.specs.Intervals.{Setting}
-use Rattle.meaning.specs.Work.{Work, Outcome, stops, goes}
+use Rattle.meaning.specs.Work.{Work}
 use Rattle.meaning.specs.Rules.{visit, visit_span}
 use Rattle.passes.specs.Walks.{MarkedBy}
 
@@ -34,8 +33,3 @@ lasting (Chop p q) = false
 lasting (For e p) = false
 lasting (While e p) = false
 lasting (Request x) = false
-
--- the outcome that an answer of settling tells, with the work that is left
-abbrev pub rested : {U : Type 0} → Result U Stop → Work → Outcome
-rested (Ok x) u = goes u false
-rested (Err s) u = stops s

@@ -1,14 +1,16 @@
 // Passes until one changes nothing.
-ghost use Rattle.std.specs.Prelude.{OnOk};
+ghost use Rattle.std.specs.Prelude.{◌≡◌, OnOk};
 ghost use Rattle.meaning.specs.Intervals.{under};
 ghost use Rattle.meaning.specs.Order.{Tidy};
-ghost use Rattle.meaning.specs.Passes.{Settles};
+ghost use Rattle.meaning.specs.Passes.{pass, Settles};
+ghost use Rattle.board.specs.Answers.{told};
 ghost use Rattle.board.specs.Held.{held, sheet_of};
-ghost use Rattle.passes.specs.Marked.{rested};
+ghost use Rattle.passes.specs.Passing.{setting_of, rested};
+ghost use Rattle.passes.specs.Marked.{Marked, MarkedSpans};
 
 use crate::marks::{Marks, clear};
 use crate::parts::Pass;
-use board::Board;
+use board::{Board, after};
 use feed::Feed;
 use meaning::Stop;
 use sheet::Sheet;
@@ -30,19 +32,26 @@ pub fn settle<F: Feed>(
     let pass = Pass { sheet, feed, state };
     clear(&mut marks.duties);
     clear(&mut marks.spans);
-    while pass.visit_all(board, memo, marks)? {}
+    while pass.visit_both(board, memo, marks)? {}
     Ok(())
 }
 
 impl<'a, F: Feed> Pass<'a, F> {
     // One pass: the duties from first to last, and then the spans in the order of opening.
-    fn visit_all(
+    fn visit_both(
         &self,
         board: &mut Board,
         memo: &mut Memo,
         marks: &mut Marks,
-    ) -> Result<bool, Stop> {
+    ) -> Result<bool, Stop>
+        requires tidy { Tidy (setting_of F.Feed.readings self.now) (held board.old) }
+        requires marked { Marked (setting_of F.Feed.readings self.now) self.now.state (held board.old) marks.old.duties.items }
+        requires marked_spans { MarkedSpans (held board.old) marks.old.spans.items }
+        ensures visited { told result (held board.new) ≡ pass (setting_of F.Feed.readings self.now) self.now.state (held board.old) }
+        ensures marked { OnOk result (Marked (setting_of F.Feed.readings self.now) self.now.state (held board.new) marks.new.duties.items) }
+        ensures marked_spans { OnOk result (MarkedSpans (held board.new) marks.new.spans.items) }
+    {
         let changed = self.visit_duties(board, memo, &mut marks.duties)?;
-        Ok(self.visit_spans(board, memo, &mut marks.spans)? || changed)
+        after(changed, self.visit_spans(board, memo, &mut marks.spans))
     }
 }
