@@ -1,0 +1,23 @@
+use Rattle.meaning.specs.Intervals.{Setting, under, width}
+use Rattle.meaning.specs.Work.{Outcome}
+use Rattle.meaning.specs.Order.{Tidy}
+use Rattle.meaning.specs.Passes.{Settles}
+use Rattle.meaning.proofs.Fall.{left}
+use Rattle.board.specs.Held.{held, sheet_of}
+use Rattle.passes.specs.Marked.{Marked, MarkedSpans}
+use Rattle.passes.proofs.settling.settle.Given as goal
+
+-- what settles the work that is left settles the first one
+abbrev pub invariant-loop : goal.invariant-loop
+invariant-loop g l =
+    let S : Setting = under (sheet_of l.sheet) (g.F.Feed.readings l.feed) in
+    record {
+      going : (o : Outcome) → Settles S l.state (held l.board) o → Settles S l.state (held l.initial.board) o;
+      tidy : Tidy S (held l.board);
+      marked : Marked S l.state (held l.board) l.marks.duties.items;
+      marked_spans : MarkedSpans (held l.board) l.marks.spans.items;
+    }
+
+-- how much is left to find out
+abbrev pub decreases-loop : goal.decreases-loop
+decreases-loop g l = left (width (under (sheet_of l.sheet) (g.F.Feed.readings l.feed))) (held l.board)
