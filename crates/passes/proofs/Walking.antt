@@ -56,14 +56,14 @@ module _ {T : Type 0} (items : Work → List T) (visited : T → Work → Outcom
   from_over n i w a o h e q =
       sym (ap (also a) (from_more n i w h ∙ ap (λ (z : Option T). visit_one visited z (visit_from items visited (n - (i + 1)) (i + 1)) w) e) ∙ ap (goes w) (or_no a)) ∙ q
 
+  -- marks that are right stay so in each later work
+  pub marked_later : ((w u : Work) → Later w u → (i : ℕ) (t : T) → slice_get (items w) i ≡ Some t → slice_get (items u) i ≡ Some t) → (w u : Work) (marks : List Bool) → Later w u → MarkedBy items visited w marks → MarkedBy items visited u marks
+  marked_later stays w u marks l m = λ i e. let r = m i e in (r.0, stays w u l i r.0 r.1, λ v k. r.2 v (later_trans l k))
+
   -- an item may be marked once it is visited in vain; the marks before stay right
   pub marked_set : ((w u : Work) → Later w u → (i : ℕ) (t : T) → slice_get (items w) i ≡ Some t → slice_get (items u) i ≡ Some t) → (i : ℕ) (t : T) (w u : Work) (marks : List Bool)
       → slice_get (items w) i ≡ Some t → ((v : Work) → Later u v → visited t v ≡ goes v false) → Later w u → MarkedBy items visited w marks → MarkedBy items visited u (set marks i true)
   marked_set stays i t w u marks e n l m = λ j q.
       at_set marks i j (λ z. (x : T) × (slice_get (items u) z ≡ Some x) × ((v : Work) → Later u v → visited x v ≡ goes v false))
-      (λ a. let r = m j a in (r.0, stays w u l j r.0 r.1, λ v k. r.2 v (later_trans l k)))
+      (marked_later stays w u marks l m j)
       (t, stays w u l i t e, n) q
-
-  -- marks that are right stay so in each later work
-  pub marked_later : ((w u : Work) → Later w u → (i : ℕ) (t : T) → slice_get (items w) i ≡ Some t → slice_get (items u) i ≡ Some t) → (w u : Work) (marks : List Bool) → Later w u → MarkedBy items visited w marks → MarkedBy items visited u marks
-  marked_later stays w u marks l m = λ i e. let r = m i e in (r.0, stays w u l i r.0 r.1, λ v k. r.2 v (later_trans l k))

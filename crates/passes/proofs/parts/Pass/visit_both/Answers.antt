@@ -15,6 +15,6 @@ returns-clause-marked g c =
     let v = c.args.marks.now.duties in
     let u = held c.visit_duties.new.board in
     let marks = c.visit_duties.new.marks in
-    after_ok c.in_ok-changed.changed c.visit_spans.result c.after.result _ _ c.after.ensures c.visit_spans.ensures.leaves
+    after_ok _ c.visit_spans.result c.after.result _ _ c.after.ensures c.visit_spans.ensures.leaves
     (λ l. marked_later (λ w. w.duties) (visit S p.state) (λ w u f i d e. f.duties i d e) u (held c.visit_spans.new.board) _ l.later
     (subst (λ (m : List Bool). Marked S p.state u m) (sym (back v.len marks v.items (omega (arith, c.visit_duties.auto.marks, c.deref_mut.ensures.len)))) c.in_ok-changed.ensures.marked))
