@@ -23,7 +23,7 @@ use Rattle.meaning.proofs.Moves.{Moves, moves_on, Any}
 use Rattle.meaning.proofs.Grown.{rule_moves, opened_moves}
 use Rattle.meaning.proofs.Kept.{OfWork, kept_visit}
 use Rattle.meaning.proofs.Later.{later_refl, later_kept}
-use Rattle.board.specs.Answers.{told, afterwards}
+use Rattle.board.specs.Answers.{told}
 use Rattle.board.specs.Held.{sheet_of}
 
 -- a sheet keeps the limits
@@ -38,14 +38,6 @@ tidy_of (moves_on g l t p) = t
 pub told_ok : (r : Result Bool Stop) (u : Work) (o : Outcome) (P : Type 0) → told r u ≡ o → ((c : Bool) → goes u c ≡ o → P) → OnOk r P
 told_ok (Ok c) u o P e f = f c e
 told_ok (Err s) u o P e f = tt
-
--- what holds on `Ok` still does where something has changed before
-pub after_ok : (c : Bool) (r a : Result Bool Stop) (P Q : Type 0) → a ≡ afterwards c r → OnOk r P → (P → Q) → OnOk a Q
-after_ok c r a P Q e h f = subst (λ (z : Result Bool Stop). OnOk z Q) (sym e) (by r h)
-  where
-    by : (r : Result Bool Stop) → OnOk r P → OnOk (afterwards c r) Q
-    by (Ok b) h = f h
-    by (Err s) h = tt
 
 -- a slice of a whole list, given back, is the list
 pub back : (n : ℕ) (new old : List Bool) → n ≡ length new → take n (new ++ drop (length new) old) ≡ new

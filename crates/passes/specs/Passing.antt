@@ -1,7 +1,7 @@
 -- The setting of a pass, and what settling answers. Assumes nothing.
 use Rattle.std.specs.Prelude.{ℕ, ℤ, false, Option, Ok, Err, Result}
-use Rattle.meaning.specs.Intervals.{Setting, under}
 use Rattle.meaning.specs.declared.parts.Stop.{Stop}
+use Rattle.meaning.specs.Intervals.{Setting, under}
 use Rattle.meaning.specs.Work.{Work, Outcome, stops, goes}
 use Rattle.board.specs.Held.{sheet_of}
 use Rattle.passes.specs.declared.parts.Pass.{Pass}

@@ -1,5 +1,5 @@
 -- A pass that changes something is followed by others; one that changes nothing, or stops, is the last.
-use Rattle.std.proofs.Common.{false}
+use Rattle.std.proofs.Common.{rules, false}
 use Rattle.std.proofs.lemmas.Result.{err_from_is_err_and}
 use Rattle.meaning.specs.Intervals.{under}
 use Rattle.meaning.specs.Work.{stops, goes}
@@ -19,7 +19,7 @@ pub loop-smaller : goal.loop-smaller
 loop-smaller g c =
     let S = under (sheet_of c.args.sheet.now) (g.F.Feed.readings c.args.feed.now) in
     let b = c.in_ok-visit_both in
-    (pass_keeps S (limits_of c.args.sheet.now) c.args.state (held c.loop.board) (held c.visit_both.new.board) b.field-0 c.loop.invariant.tidy b.ensures.visited).1.lt c.if-branch.true
+    (pass_keeps S (limits_of c.args.sheet.now) c.args.state (held c.loop.board) (held c.visit_both.new.board) b.field-0 c.loop.invariant.tidy b.ensures.visited).1.lt (search rules)
 
 pub loop-preserved : goal.loop-preserved
 loop-preserved g c =
@@ -28,7 +28,7 @@ loop-preserved g c =
     let w = held c.loop.board in
     let u = held c.visit_both.new.board in
     record {
-      going = λ o h. c.loop.invariant.going o (goes_on S c.args.state w u b.field-0 o c.if-branch.true b.ensures.visited h);
+      going = λ o h. c.loop.invariant.going o (goes_on S c.args.state w u b.field-0 o (search rules) b.ensures.visited h);
       tidy = (pass_keeps S (limits_of c.args.sheet.now) c.args.state w u b.field-0 c.loop.invariant.tidy b.ensures.visited).0;
       marked = b.ensures.marked;
       marked_spans = b.ensures.marked_spans;
@@ -39,7 +39,7 @@ returns-clause-settles g c =
     let S = under (sheet_of c.args.sheet.now) (g.F.Feed.readings c.args.feed.now) in
     let b = c.in_ok-visit_both in
     let u = held c.visit_both.new.board in
-    c.loop.invariant.going (goes u false) (rests_there S c.args.state (held c.loop.board) u b.field-0 c.if-branch.false b.ensures.visited)
+    c.loop.invariant.going (goes u false) (rests_there S c.args.state (held c.loop.board) u b.field-0 (search rules) b.ensures.visited)
 
 pub returns-clause-tidy : goal.returns-clause-tidy
 returns-clause-tidy g c =

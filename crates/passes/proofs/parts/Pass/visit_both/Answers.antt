@@ -1,10 +1,11 @@
 -- The spans are visited after the duties, and the marks on duties stay right.
-use Rattle.std.proofs.Common.{List, Bool, sym, subst, arith}
+use Rattle.std.proofs.Common.{rules, List, Bool, sym, subst, arith}
+use Rattle.std.proofs.lemmas.Result.{on_ok_weaker}
 use Rattle.meaning.specs.Rules.{visit}
 use Rattle.board.specs.Held.{held}
 use Rattle.passes.specs.Passing.{setting_of}
 use Rattle.passes.specs.Marked.{Marked}
-use Rattle.passes.proofs.Keeping.{after_ok, back}
+use Rattle.passes.proofs.Keeping.{back}
 use Rattle.passes.proofs.Walking.{marked_later}
 use Rattle.passes.proofs.parts.Pass.visit_both.Goals as goal
 
@@ -15,6 +16,6 @@ returns-clause-marked g c =
     let v = c.args.marks.now.duties in
     let u = held c.visit_duties.new.board in
     let marks = c.visit_duties.new.marks in
-    after_ok _ c.visit_spans.result c.after.result _ _ c.after.ensures c.visit_spans.ensures.leaves
-    (λ l. marked_later (λ w. w.duties) (visit S p.state) (λ w u f i d e. f.duties i d e) u (held c.visit_spans.new.board) _ l.later
-    (subst (λ (m : List Bool). Marked S p.state u m) (sym (back v.len marks v.items (omega (arith, c.visit_duties.auto.marks, c.deref_mut.ensures.len)))) c.in_ok-changed.ensures.marked))
+    let m = subst (λ (z : List Bool). Marked S p.state u z) (sym (back v.len marks v.items (omega (arith, c.visit_duties.auto.marks, c.deref_mut.ensures.len)))) c.in_ok-changed.ensures.marked in
+    let h = on_ok_weaker c.visit_spans.result (λ l. marked_later (λ w. w.duties) (visit S p.state) (λ w u f i d e. f.duties i d e) u (held c.visit_spans.new.board) _ l.later m) c.visit_spans.ensures.leaves in
+    search (rules, h)
