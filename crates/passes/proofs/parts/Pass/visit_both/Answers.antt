@@ -1,13 +1,19 @@
--- The spans are visited after the duties, and the marks on duties stay right.
+-- The spans are visited after the duties, and the marks on both stay right meanwhile.
 use Rattle.std.proofs.Common.{rules, List, Bool, sym, subst, arith}
 use Rattle.std.proofs.lemmas.Result.{on_ok_weaker}
-use Rattle.meaning.specs.Rules.{visit}
+use Rattle.meaning.specs.Rules.{visit, visit_span}
 use Rattle.board.specs.Held.{held}
 use Rattle.passes.specs.Passing.{setting_of}
-use Rattle.passes.specs.Marked.{Marked}
+use Rattle.passes.specs.Marked.{Marked, MarkedSpans}
 use Rattle.passes.proofs.Keeping.{back}
 use Rattle.passes.proofs.Walking.{marked_later}
 use Rattle.passes.proofs.parts.Pass.visit_both.Goals as goal
+
+pub visit_spans-requires-clause-marked : goal.visit_spans-requires-clause-marked
+visit_spans-requires-clause-marked g c =
+    let w = held c.args.board.now in
+    marked_later (λ w. w.spans) visit_span (λ w u f i t e. f.spans i t e) w (held c.visit_duties.new.board) c.deref_mut-2.result.now c.in_ok-changed.ensures.leaves.later
+    (subst (λ (z : List Bool). MarkedSpans w z) (sym c.deref_mut-2.ensures.value) c.requires.marked_spans)
 
 pub returns-clause-marked : goal.returns-clause-marked
 returns-clause-marked g c =
