@@ -1,4 +1,8 @@
 // The memory that settles states.
+ghost use Rattle.std.specs.Prelude.{◌≡◌, ◌+◌, ◌*◌, ◌≤◌, true};
+ghost use Rattle.board.specs.Held.{store};
+ghost use Rattle.states.specs.Ready.{ready};
+
 use board::Board;
 use passes::Marks;
 use value::Memo;
@@ -11,4 +15,6 @@ pub struct Settler {
     pub(crate) marks: Marks,
     // the number of the next state
     pub(crate) state: u32,
+    ghost ready: { ready (store board) ≡ true },
+    ghost young: { board.next ≤ 64 * state + 1 },
 }
