@@ -1,5 +1,5 @@
 -- What each call does: from what engine and recorder mean before it, to its answer and what they mean after it. Assumes nothing.
-use Rattle.std.specs.Prelude.{◌≡◌, ℕ, zero, suc, ◌+◌, ◌<◌, Bool, true, false, ◌&&◌, if◌then◌else◌, List, [], ◌∷◌, length, ℤ, Some, None, Ok, Err, Option, Result, ◌==◌, nat_le}
+use Rattle.std.specs.Prelude.{◌≡◌, ℕ, zero, suc, ◌+◌, ◌<◌, ◌&&◌, if◌then◌else◌, List, [], ◌∷◌, length, ℤ, Some, None, Ok, Err, Option, Result, ◌==◌, nat_le}
 use Rattle.std.specs.List.{slice_get}
 use Rattle.sheet.specs.Content.{Content}
 use Rattle.verdict.specs.declared.refusals.Refusal.{Refusal}

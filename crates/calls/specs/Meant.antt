@@ -1,8 +1,7 @@
 -- What an engine and a recorder mean. Assumes nothing.
-use Rattle.std.specs.Prelude.{ℕ, ◌-◌, List, [], ◌∷◌, ◌++◌, length, ℤ}
+use Rattle.std.specs.Prelude.{ℕ, ◌-◌, List, [], ◌∷◌, ◌++◌, ℤ}
 use Rattle.sheet.specs.Content.{Content}
 use Rattle.meaning.specs.Work.{Work}
-use Rattle.meaning.specs.Runs.{first_work}
 use Rattle.calls.specs.declared.parts.Ending.{Ending}
 
 -- how an engine stands

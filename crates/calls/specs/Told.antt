@@ -1,11 +1,10 @@
 -- What an answer tells: its published number with its values, or that the call did what it was asked. Assumes nothing.
-use Rattle.std.specs.Prelude.{ℕ, ℤ, List, [], ◌∷◌, Ok, Err, Result}
+use Rattle.std.specs.Prelude.{ℕ, Bool, true, false, List, [], ◌∷◌, ℤ, Ok, Err, Result, ◌==◌}
 use Rattle.meaning.specs.declared.parts.Stop.{Stop}
 use Rattle.meaning.specs.declared.parts.Stop.TheVariants.{Contradiction, Undetermined, Crowded}
 use Rattle.meaning.specs.Runs.{open_number}
 use Rattle.verdict.specs.declared.refusals.Refusal.{Refusal}
 use Rattle.verdict.specs.Told.{told as told_text}
-use Rattle.calls.specs.declared.parts.Cause.{Cause}
 use Rattle.calls.specs.declared.parts.Condition.{Condition}
 use Rattle.calls.specs.declared.parts.Condition.TheVariants.{Idle, Open, Ended}
 use Rattle.calls.specs.declared.parts.Denial.{Denial}
@@ -101,3 +100,23 @@ told (to_report Open) = is_open []
 told (to_report (Ended e)) = told_ending e
 told (to_look (Ok z)) = found z
 told (to_look (Err d)) = told_denial d
+
+-- whether an answer says that the run has finished
+abbrev pub says_finished : Told → Bool
+says_finished done = false
+says_finished (found z) = false
+says_finished is_idle = false
+says_finished (is_open vs) = false
+says_finished (is_finished vs) = true
+says_finished is_abandoned = false
+says_finished (numbered n vs) = false
+
+-- whether an answer says stop 31, a contradiction
+abbrev pub says_contradiction : Told → Bool
+says_contradiction done = false
+says_contradiction (found z) = false
+says_contradiction is_idle = false
+says_contradiction (is_open vs) = false
+says_contradiction (is_finished vs) = false
+says_contradiction is_abandoned = false
+says_contradiction (numbered n vs) = n == 31

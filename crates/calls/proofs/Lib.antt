@@ -1,0 +1,3 @@
+-- Lemmas that the proof of the law of runs uses.
+pub mod Moments
+pub mod Keeping

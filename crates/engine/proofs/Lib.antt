@@ -1,0 +1,2 @@
+-- Lemmas that the proof of the law of runs uses.
+pub mod Runs
