@@ -1,2 +1,3 @@
--- Lemmas that the proof of the law of runs uses.
+-- Lemmas that the proofs of this crate use: one state more, and the law of runs.
+pub mod Onward
 pub mod Runs

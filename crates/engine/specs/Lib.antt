@@ -1,3 +1,5 @@
--- What the contracts of this crate say: what an engine means, and the law of runs.
+-- What the contracts of this crate say: what an engine means, what may happen to it, and the law of runs.
 pub mod Held
+pub mod Events
+pub mod Advancing
 pub mod Law

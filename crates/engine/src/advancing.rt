@@ -1,9 +1,43 @@
 // The call that settles states.
+ghost use Rattle.std.specs.Prelude.{◌≡◌, ◌<◌, true, false, length, vec_len, Ok as ok, ◌&&◌, ◌==◌, if◌then◌else◌};
+ghost use Rattle.record.specs.Rules.{all_small};
+ghost use Rattle.meaning.specs.Intervals.{under};
+ghost use Rattle.board.specs.Held.{held, sheet_of};
+ghost use Rattle.calls.specs.declared.parts.Condition.TheVariants.{Open as is_open, Ended as ended_so};
+ghost use Rattle.calls.specs.declared.parts.Ending.TheVariants.{Finished as finished_so};
+ghost use Rattle.calls.specs.Calls.{Advances, Settled};
+ghost use Rattle.calls.specs.Meant.{recording, with_state};
+ghost use Rattle.calls.specs.Told.{told, to_advance};
+ghost use Rattle.engine.specs.Held.{meant};
+ghost use Rattle.engine.specs.Advancing.{OneMore, WritesOn};
+
 use crate::engine::Engine;
-use crate::events::Event;
+use crate::events::{Event, meet};
 use calls::{Cause, Condition, Ending, NotAdvanced, Progress};
 use feed::Feed;
 use record::Recorder;
+
+// The condition after a settled state.
+fn following(last: bool) -> Condition
+    ensures { result ≡ (if last then ended_so finished_so else is_open) }
+{
+    if last {
+        Condition::Ended(Ending::Finished)
+    } else {
+        Condition::Open
+    }
+}
+
+// Has a state recorded for which there is room and that fits.
+fn record<R: Recorder>(recorder: &mut R, state: &[i64])
+    requires room { 0 < R.spare recorder.old }
+    requires wide { length state.now ≡ R.breadth recorder.old }
+    requires small { all_small state.now ≡ true }
+    ensures recorded { recording R.states R.breadth R.spare recorder.new ≡ with_state state.now (recording R.states R.breadth R.spare recorder.old) }
+    ensures owner { WritesOn R.capacity R.lent R.reach R.cell recorder.old recorder.new }
+{
+    let _ = recorder.take(state);
+}
 
 impl Engine {
     // Settles and records up to so many states more.
@@ -12,10 +46,29 @@ impl Engine {
         states: usize,
         feed: &F,
         recorder: &mut R,
-    ) -> Result<Progress, NotAdvanced> {
+    ) -> Result<Progress, NotAdvanced>
+        ensures outcome { Advances (F.readings feed.now) states (meant self.old) (recording R.states R.breadth R.spare recorder.old) (told (to_advance result)) (meant self.new) (recording R.states R.breadth R.spare recorder.new) }
+        ensures owner { WritesOn R.capacity R.lent R.reach R.cell recorder.old recorder.new }
+    {
         let own = self.owns(recorder);
-        self.meet(Event::Advance { states, own })
-            .map_err(NotAdvanced::Denied)?;
+        meet(&mut self.condition, Event::Advance(states, own)).map_err(NotAdvanced::Denied)?;
+        self.go_on(states, feed, recorder)
+    }
+
+    // Settles and records up to so many states more of the open run, whose recorder this is.
+    fn go_on<F: Feed, R: Recorder>(
+        &mut self,
+        states: usize,
+        feed: &F,
+        recorder: &mut R,
+    ) -> Result<Progress, NotAdvanced>
+        requires open { self.old.condition ≡ is_open }
+        requires wide { R.breadth recorder.old ≡ vec_len self.old.loader.sheet.tables.variables }
+        requires counted { length (R.states recorder.old) ≡ self.old.settler.state }
+        ensures settled { Settled (under (sheet_of self.old.loader.sheet) (F.readings feed.now)) states (recording R.states R.breadth R.spare recorder.old) (held self.old.settler.board) (told (to_advance result)) (meant self.new).standing (recording R.states R.breadth R.spare recorder.new) }
+        ensures sheet { self.new.loader ≡ self.old.loader }
+        ensures owner { WritesOn R.capacity R.lent R.reach R.cell recorder.old recorder.new }
+    {
         for _i in 0..states {
             if self.record_state(feed, recorder)? {
                 return Ok(Progress::Finished(recorder.count()));
@@ -25,7 +78,9 @@ impl Engine {
     }
 
     // Whether the recorder's width and count are the run's.
-    fn owns<R: Recorder>(&self, recorder: &R) -> bool {
+    fn owns<R: Recorder>(&self, recorder: &R) -> bool
+        ensures { result ≡ (R.breadth recorder.now == vec_len self.now.loader.sheet.tables.variables && length (R.states recorder.now) == self.now.settler.state) }
+    {
         let sheet = self.loader.sheet();
         recorder.width() == sheet.tables.variables.len()
             && recorder.count() == self.settler.state() as usize
@@ -36,7 +91,17 @@ impl Engine {
         &mut self,
         feed: &F,
         recorder: &mut R,
-    ) -> Result<bool, NotAdvanced> {
+    ) -> Result<bool, NotAdvanced>
+        requires open { self.old.condition ≡ is_open }
+        requires wide { R.breadth recorder.old ≡ vec_len self.old.loader.sheet.tables.variables }
+        requires counted { length (R.states recorder.old) ≡ self.old.settler.state }
+        ensures one { OneMore (under (sheet_of self.old.loader.sheet) (F.readings feed.now)) (recording R.states R.breadth R.spare recorder.old) (held self.old.settler.board) result (meant self.new).standing (recording R.states R.breadth R.spare recorder.new) }
+        ensures sheet { self.new.loader ≡ self.old.loader }
+        ensures open { result ≡ ok false → self.new.condition ≡ is_open }
+        ensures wide { R.breadth recorder.new ≡ R.breadth recorder.old }
+        ensures counted { result ≡ ok false → length (R.states recorder.new) ≡ self.new.settler.state }
+        ensures owner { WritesOn R.capacity R.lent R.reach R.cell recorder.old recorder.new }
+    {
         let state = self.settler.state();
         if recorder.room() == 0 {
             return Err(NotAdvanced::Full(state));
@@ -44,10 +109,11 @@ impl Engine {
         let sheet = self.loader.sheet();
         match self.settler.step(sheet, feed) {
             Ok(settled) => {
-                recorder.take(&settled.numbers[..sheet.tables.variables.len()]);
-                if settled.last {
-                    self.condition = Condition::Ended(Ending::Finished);
-                }
+                record(
+                    recorder,
+                    &settled.numbers[..sheet.tables.variables.len()],
+                );
+                self.condition = following(settled.last);
                 Ok(settled.last)
             }
             Err(stop) => {

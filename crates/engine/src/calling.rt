@@ -1,6 +1,15 @@
 // The calls on an engine that settle no state.
+ghost use Rattle.std.specs.Prelude.{◌≡◌, ℕ, IfOk};
+ghost use Rattle.sheet.specs.Held.{first};
+ghost use Rattle.record.specs.Owned.{LeavesOwner};
+ghost use Rattle.calls.specs.Calls.{Loads, Begins, Abandons, report_of};
+ghost use Rattle.calls.specs.Meant.{idle, recording};
+ghost use Rattle.calls.specs.Told.{told, to_load, to_begin, to_abandon, to_report};
+ghost use Rattle.engine.specs.Held.{meant};
+ghost use Rattle.engine.specs.Law.{LawOfRuns};
+
 use crate::engine::Engine;
-use crate::events::Event;
+use crate::events::{Event, meet};
 use calls::{Condition, Denial, NotLoaded};
 use load::Loader;
 use record::Recorder;
@@ -9,7 +18,11 @@ use std::alloc::{AllocError, Global};
 
 impl Engine {
     // An idle engine that holds the sheet `var=a 0 0`, `stmt=empty`, `run=0`. Nothing allocates after this.
-    pub fn new(heap: Global) -> Result<Engine, AllocError> {
+    // Every run of it, and of any other engine, keeps the law of runs.
+    pub fn new(heap: Global) -> Result<Engine, AllocError>
+        ensures holds { IfOk result (λ e. meant e ≡ record { sheet = first; standing = idle }) }
+        ensures runs { LawOfRuns }
+    {
         let loader = Loader::new(heap)?;
         let settler = Settler::new(heap)?;
         Ok(Engine {
@@ -20,30 +33,40 @@ impl Engine {
     }
 
     // Loads the sheet that a text spells, and is idle then. Denied while a run is open.
-    pub fn load(&mut self, text: &[u8]) -> Result<(), NotLoaded> {
-        self.meet(Event::Load).map_err(|_| NotLoaded::RunIsOpen)?;
+    pub fn load(&mut self, text: &[u8]) -> Result<(), NotLoaded>
+        ensures { Loads text.now (meant self.old) (told (to_load result)) (meant self.new) }
+    {
+        meet(&mut self.condition, Event::Load).map_err(|_| NotLoaded::RunIsOpen)?;
         self.loader.load(text).map_err(NotLoaded::Refused)?;
         self.condition = Condition::Idle;
         Ok(())
     }
 
     // Starts the recorder for the sheet that is held, and opens a run. Denied while a run is open.
-    pub fn begin<R: Recorder>(&mut self, recorder: &mut R) -> Result<(), Denial> {
-        self.meet(Event::Begin)?;
+    pub fn begin<R: Recorder>(&mut self, recorder: &mut R) -> Result<(), Denial>
+        ensures outcome { Begins (R.capacity recorder.old) (meant self.old) (recording R.states R.breadth R.spare recorder.old) (told (to_begin result)) (meant self.new) (recording R.states R.breadth R.spare recorder.new) }
+        ensures untouched { (k : ℕ) → R.cell recorder.new k ≡ R.cell recorder.old k }
+        ensures owner { LeavesOwner R.capacity R.lent R.reach R.cell recorder.old recorder.new }
+    {
+        meet(&mut self.condition, Event::Begin)?;
         let sheet = self.loader.sheet();
-        recorder.start(sheet.tables.variables.len());
+        let _ = recorder.start(sheet.tables.variables.len());
         self.settler.begin(sheet.run);
         self.condition = Condition::Open;
         Ok(())
     }
 
     // Gives the open run up.
-    pub fn abandon(&mut self) -> Result<(), Denial> {
-        self.meet(Event::Abandon)
+    pub fn abandon(&mut self) -> Result<(), Denial>
+        ensures { Abandons (meant self.old) (told (to_abandon result)) (meant self.new) }
+    {
+        meet(&mut self.condition, Event::Abandon)
     }
 
     // The engine's condition.
-    pub fn report(&self) -> Condition {
+    pub fn report(&self) -> Condition
+        ensures { told (to_report result) ≡ report_of (meant self.now).standing }
+    {
         self.condition
     }
 }

@@ -1,5 +1,7 @@
-// What may happen to an engine in which condition.
-use crate::engine::Engine;
+// What may happen to an engine, and in which condition.
+ghost use Rattle.std.specs.Prelude.{◌≡◌};
+ghost use Rattle.engine.specs.Events.{met, turned};
+
 use calls::{Condition, Denial, Ending};
 
 // The most states that one advance is asked for.
@@ -10,32 +12,33 @@ const MOST_STATES: usize = 1000;
 pub(crate) enum Event {
     Load,
     Begin,
-    // so many states more, for a recorder that is the run's or not
-    Advance { states: usize, own: bool },
+    // so many states more; the recorder is the run's or not
+    Advance(usize, bool),
     Abandon,
 }
 
-impl Engine {
-    // Whether the event is allowed in the engine's condition. To abandon ends the run.
-    pub(crate) fn meet(&mut self, event: Event) -> Result<(), Denial> {
-        match (&mut self.condition, event) {
-            (Condition::Open, Event::Load | Event::Begin) => Err(Denial::RunIsOpen),
-            (Condition::Idle | Condition::Ended(_), Event::Load | Event::Begin) => Ok(()),
-            (Condition::Idle | Condition::Ended(_), Event::Advance { .. } | Event::Abandon) =>
-                Err(Denial::NoRunIsOpen),
-            (Condition::Open, Event::Advance { states, own }) => {
-                if !(1..=MOST_STATES).contains(&states) {
-                    Err(Denial::WrongStates)
-                } else if !own {
-                    Err(Denial::OtherRecorder)
-                } else {
-                    Ok(())
-                }
-            }
-            (Condition::Open, Event::Abandon) => {
-                self.condition = Condition::Ended(Ending::Abandoned);
+// Whether an event is allowed in a condition. To abandon ends the run.
+pub(crate) fn meet(condition: &mut Condition, event: Event) -> Result<(), Denial>
+    ensures answer { result ≡ met condition.old event }
+    ensures after { condition.new ≡ turned condition.old event }
+{
+    match (&mut *condition, event) {
+        (Condition::Open, Event::Load | Event::Begin) => Err(Denial::RunIsOpen),
+        (Condition::Idle | Condition::Ended(_), Event::Load | Event::Begin) => Ok(()),
+        (Condition::Idle | Condition::Ended(_), Event::Advance(_, _) | Event::Abandon) =>
+            Err(Denial::NoRunIsOpen),
+        (Condition::Open, Event::Advance(states, own)) => {
+            if !(1..=MOST_STATES).contains(&states) {
+                Err(Denial::WrongStates)
+            } else if !own {
+                Err(Denial::OtherRecorder)
+            } else {
                 Ok(())
             }
+        }
+        (Condition::Open, Event::Abandon) => {
+            *condition = Condition::Ended(Ending::Abandoned);
+            Ok(())
         }
     }
 }

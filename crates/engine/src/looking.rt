@@ -1,4 +1,9 @@
 // What is recorded.
+ghost use Rattle.std.specs.Prelude.{◌≡◌};
+ghost use Rattle.calls.specs.Calls.{look_of};
+ghost use Rattle.calls.specs.Meant.{recording};
+ghost use Rattle.calls.specs.Told.{told, to_look};
+
 use crate::engine::Engine;
 use calls::Denial;
 use record::Recorder;
@@ -10,7 +15,9 @@ impl Engine {
         recorder: &R,
         state: usize,
         variable: usize,
-    ) -> Result<i64, Denial> {
+    ) -> Result<i64, Denial>
+        ensures { told (to_look result) ≡ look_of (recording R.states R.breadth R.spare recorder.now) state variable }
+    {
         if state >= recorder.count() {
             return Err(Denial::NoSuchState);
         }

@@ -1,0 +1,12 @@
+-- The law of runs is proved from what the calls promise.
+use Rattle.engine.proofs.Runs.{law_of_runs}
+use Rattle.engine.proofs.engine.Engine.new.Goals as goal
+
+pub returns-in_err-loader-clause-runs : goal.returns-in_err-loader-clause-runs
+returns-in_err-loader-clause-runs c = law_of_runs
+
+pub returns-in_err-settler-clause-runs : goal.returns-in_err-settler-clause-runs
+returns-in_err-settler-clause-runs c = law_of_runs
+
+pub returns-clause-runs : goal.returns-clause-runs
+returns-clause-runs c = law_of_runs
