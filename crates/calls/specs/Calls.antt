@@ -11,18 +11,20 @@ use Rattle.meaning.specs.Runs.{first_work, Steps, stopped, recorded, finished as
 use Rattle.calls.specs.declared.parts.Denial.{Denial}
 use Rattle.calls.specs.declared.parts.Denial.TheVariants.{RunIsOpen, NoRunIsOpen, WrongStates, OtherRecorder, NoSuchState, NoSuchVariable}
 use Rattle.calls.specs.declared.parts.Ending.TheVariants.{Finished, Abandoned, Stopped}
+use Rattle.calls.specs.declared.parts.NotAdvanced.TheVariants.{Full}
+use Rattle.calls.specs.declared.parts.NotLoaded.TheVariants.{RunIsOpen as RunOpen, Refused}
 use Rattle.calls.specs.Meant.{Standing, idle, running, ended, Meant, stands, Recording, blank, with_state}
-use Rattle.calls.specs.Told.{Told, done, found, is_idle, is_open, is_finished, numbered, count, state, line, word, told_denial, told_refusal, told_stop, told_ending}
+use Rattle.calls.specs.Told.{Told, done, found, is_idle, is_open, is_finished, count, told_denial, told_text_of, told_advance, told_stop, told_ending}
 
 -- a load with this verdict on its text, where no run is open: the sheet is held and the engine is idle, or nothing has changed
 abbrev pub LoadsBy : Result Content Refusal → Meant → Told → Meant → Type 0
 LoadsBy (Ok c) e a d = (a ≡ done) × (d ≡ record { sheet = c; standing = idle })
-LoadsBy (Err r) e a d = (a ≡ told_refusal r) × (d ≡ e)
+LoadsBy (Err r) e a d = (a ≡ told_text_of (Refused r)) × (d ≡ e)
 
 -- a load of this text: denied while a run is open
 abbrev pub LoadsIn : Standing → List ℕ → Meant → Told → Meant → Type 0
 LoadsIn idle text e a d = LoadsBy (verdict text) e a d
-LoadsIn (running k w) text e a d = (a ≡ numbered 20 (line 0 ∷ word 0 ∷ [])) × (d ≡ e)
+LoadsIn (running k w) text e a d = (a ≡ told_text_of RunOpen) × (d ≡ e)
 LoadsIn (ended x) text e a d = LoadsBy (verdict text) e a d
 
 abbrev pub Loads : List ℕ → Meant → Told → Meant → Type 0
@@ -47,7 +49,7 @@ pub data Settled (S : Setting) : ℕ → Recording → Work → Told → Standin
   -- no more states are asked for: the run goes on
   all_asked : {q : Recording} {w : Work} → Settled S zero q w (is_open (count (length q.states) ∷ [])) (running (length q.states) w) q
   -- there is no room: the run goes on
-  no_room : {n : ℕ} {q : Recording} {w : Work} → q.room ≡ 0 → Settled S (suc n) q w (numbered 34 (state (length q.states) ∷ [])) (running (length q.states) w) q
+  no_room : {n : ℕ} {q : Recording} {w : Work} → q.room ≡ 0 → Settled S (suc n) q w (told_advance (Full (length q.states))) (running (length q.states) w) q
   -- the next state meets a stop: it is not recorded, and the run has ended
   met_stop : {n : ℕ} {q : Recording} {w : Work} {s : Stop} → 0 < q.room → Steps S (length q.states) w (stopped s)
       → Settled S (suc n) q w (told_stop (length q.states) s) (ended (Stopped (record { stop = s; state = length q.states }))) q

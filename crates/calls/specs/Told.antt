@@ -61,19 +61,58 @@ denial_number NoSuchState = 23
 denial_number NoSuchVariable = 24
 denial_number OtherRecorder = 25
 
+-- the number of a text that is not loaded, its line and its word; none is looked at while a run is open
+abbrev pub text_number : NotLoaded → ℕ
+text_number NotLoaded.RunIsOpen = denial_number RunIsOpen
+text_number (Refused r) = (told_text r).number
+
+abbrev pub text_line : NotLoaded → ℕ
+text_line NotLoaded.RunIsOpen = 0
+text_line (Refused r) = (told_text r).line
+
+abbrev pub text_word : NotLoaded → ℕ
+text_word NotLoaded.RunIsOpen = 0
+text_word (Refused r) = (told_text r).word
+
+-- the numbers of stops
+abbrev pub stop_number : Stop → ℕ
+stop_number (Contradiction p) = 31
+stop_number (Undetermined x) = 32
+stop_number Crowded = 33
+
+-- what a stop says besides its state
+abbrev pub stop_values : Stop → List Value
+stop_values (Contradiction p) = statement p ∷ []
+stop_values (Undetermined x) = variable (open_number x) ∷ []
+stop_values Crowded = []
+
+-- the number of an advance that has not recorded all its states
+abbrev pub advance_number : NotAdvanced → ℕ
+advance_number (Denied d) = denial_number d
+advance_number (Full k) = 34
+advance_number (NotAdvanced.Stopped c) = stop_number c.stop
+
+-- and its values: none, or the state, with what its stop says
+abbrev pub advance_values : NotAdvanced → List Value
+advance_values (Denied d) = []
+advance_values (Full k) = state k ∷ []
+advance_values (NotAdvanced.Stopped c) = state c.state ∷ stop_values c.stop
+
 -- a denial has no values
 abbrev pub told_denial : Denial → Told
 told_denial d = numbered (denial_number d) []
 
--- a refused text, by its number, line and word
-abbrev pub told_refusal : Refusal → Told
-told_refusal r = numbered (told_text r).number (line (told_text r).line ∷ word (told_text r).word ∷ [])
+-- a text that is not loaded
+abbrev pub told_text_of : NotLoaded → Told
+told_text_of x = numbered (text_number x) (line (text_line x) ∷ word (text_word x) ∷ [])
 
 -- a stop at state k
 abbrev pub told_stop : ℕ → Stop → Told
-told_stop k (Contradiction p) = numbered 31 (state k ∷ statement p ∷ [])
-told_stop k (Undetermined x) = numbered 32 (state k ∷ variable (open_number x) ∷ [])
-told_stop k Crowded = numbered 33 (state k ∷ [])
+told_stop k s = numbered (stop_number s) (state k ∷ stop_values s)
+
+-- an advance that has not recorded all its states
+abbrev pub told_advance : NotAdvanced → Told
+told_advance x = numbered (advance_number x) (advance_values x)
 
 -- how a run has ended
 abbrev pub told_ending : Ending → Told
@@ -81,18 +120,15 @@ told_ending Finished = is_finished []
 told_ending Abandoned = is_abandoned
 told_ending (Stopped c) = told_stop c.state c.stop
 
--- what each answer tells; all published numbers stand here
+-- what each answer tells
 abbrev pub told : Answer → Told
 told (to_load (Ok u)) = done
-told (to_load (Err NotLoaded.RunIsOpen)) = numbered 20 (line 0 ∷ word 0 ∷ [])
-told (to_load (Err (Refused r))) = told_refusal r
+told (to_load (Err x)) = told_text_of x
 told (to_begin (Ok u)) = done
 told (to_begin (Err d)) = told_denial d
 told (to_advance (Ok (Progress.Open n))) = is_open (count n ∷ [])
 told (to_advance (Ok (Progress.Finished n))) = is_finished (count n ∷ [])
-told (to_advance (Err (Denied d))) = told_denial d
-told (to_advance (Err (Full k))) = numbered 34 (state k ∷ [])
-told (to_advance (Err (NotAdvanced.Stopped c))) = told_stop c.state c.stop
+told (to_advance (Err x)) = told_advance x
 told (to_abandon (Ok u)) = done
 told (to_abandon (Err d)) = told_denial d
 told (to_report Idle) = is_idle
