@@ -93,7 +93,7 @@ Abandons e a d = AbandonsIn e.standing e a d
 -- what a report tells of an engine that stands so
 abbrev pub report_of : Standing → Told
 report_of idle = is_idle
-report_of (running k w) = is_open []
+report_of (running k w) = is_open (count k ∷ [])
 report_of (ended x) = told_ending x
 
 -- what a look tells of a number, if there is one

@@ -3,10 +3,7 @@ use Rattle.std.specs.Prelude.{ℕ, Bool, true, false, List, [], ◌∷◌, ℤ, 
 use Rattle.meaning.specs.declared.parts.Stop.{Stop}
 use Rattle.meaning.specs.declared.parts.Stop.TheVariants.{Contradiction, Undetermined, Crowded}
 use Rattle.meaning.specs.Runs.{open_number}
-use Rattle.verdict.specs.declared.refusals.Refusal.{Refusal}
 use Rattle.verdict.specs.Told.{told as told_text}
-use Rattle.calls.specs.declared.parts.Condition.{Condition}
-use Rattle.calls.specs.declared.parts.Condition.TheVariants.{Idle, Open, Ended}
 use Rattle.calls.specs.declared.parts.Denial.{Denial}
 use Rattle.calls.specs.declared.parts.Denial.TheVariants.{RunIsOpen, NoRunIsOpen, WrongStates, OtherRecorder, NoSuchState, NoSuchVariable}
 use Rattle.calls.specs.declared.parts.Ending.{Ending}
@@ -16,6 +13,7 @@ use Rattle.calls.specs.declared.parts.NotAdvanced.TheVariants.{Denied, Full}
 use Rattle.calls.specs.declared.parts.NotLoaded.{NotLoaded}
 use Rattle.calls.specs.declared.parts.NotLoaded.TheVariants.{Refused}
 use Rattle.calls.specs.declared.parts.Progress.{Progress}
+use Rattle.calls.specs.declared.parts.Report.{Report}
 
 -- a value that goes with an answer
 pub data Value : Type 0 where
@@ -49,7 +47,7 @@ pub data Answer : Type 0 where
   to_begin : Result (Unit {0}) Denial → Answer
   to_advance : Result Progress NotAdvanced → Answer
   to_abandon : Result (Unit {0}) Denial → Answer
-  to_report : Condition → Answer
+  to_report : Report → Answer
   to_look : Result ℤ Denial → Answer
 
 -- the numbers of denials
@@ -131,9 +129,9 @@ told (to_advance (Ok (Progress.Finished n))) = is_finished (count n ∷ [])
 told (to_advance (Err x)) = told_advance x
 told (to_abandon (Ok u)) = done
 told (to_abandon (Err d)) = told_denial d
-told (to_report Idle) = is_idle
-told (to_report Open) = is_open []
-told (to_report (Ended e)) = told_ending e
+told (to_report Report.Idle) = is_idle
+told (to_report (Report.Open n)) = is_open (count n ∷ [])
+told (to_report (Report.Ended e)) = told_ending e
 told (to_look (Ok z)) = found z
 told (to_look (Err d)) = told_denial d
 

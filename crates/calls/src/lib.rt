@@ -4,4 +4,6 @@
 mod parts;
 mod telling;
 
-pub use crate::parts::{Cause, Condition, Denial, Ending, NotAdvanced, NotLoaded, Progress};
+pub use crate::parts::{
+    Cause, Condition, Denial, Ending, NotAdvanced, NotLoaded, Progress, Report,
+};

@@ -57,6 +57,17 @@ pub enum Condition {
     Ended(Ending),
 }
 
+// What a report says of an engine.
+#[derive(Clone, Copy, Debug, PartialEq, Eq)]
+pub enum Report {
+    // no run was begun since the sheet was loaded
+    Idle,
+    // a run goes on, with so many states
+    Open(u32),
+    // the last run has ended
+    Ended(Ending),
+}
+
 // How far an advance has come, with the count of states that the recorder has then.
 #[derive(Clone, Copy, Debug, PartialEq, Eq)]
 pub enum Progress {

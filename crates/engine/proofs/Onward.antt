@@ -1,10 +1,9 @@
 -- One state more, by what the step to it has come to. Assumes nothing.
-use Rattle.std.proofs.Common.{◌≡◌, ℕ, suc, ◌+◌, ◌-◌, ◌<◌, ◌≤◌, Bool, true, false, ◌&&◌, ◌==◌, if◌then◌else◌, ltb, eqb, List, [], ◌∷◌, ◌++◌, length, take, ℤ, Ok, Err, Result, sym, refl, ap, ◌∙◌, subst, arith}
-use Rattle.record.specs.Rules.{fitting, all_small}
+use Rattle.std.proofs.Common.{◌≡◌, ℕ, suc, ◌+◌, ◌-◌, ◌<◌, ◌≤◌, Bool, true, false, if◌then◌else◌, List, [], ◌∷◌, length, take, ℤ, Ok, sym, refl, ap, ◌∙◌, subst, arith}
 use Rattle.meaning.specs.declared.parts.Stop.{Stop}
 use Rattle.meaning.specs.Intervals.{Setting}
 use Rattle.meaning.specs.Work.{Work}
-use Rattle.meaning.specs.Runs.{Step, stopped, recorded, finished, Steps}
+use Rattle.meaning.specs.Runs.{stopped, recorded, finished, Steps}
 use Rattle.meaning.proofs.Lists.{longer}
 use Rattle.states.specs.declared.parts.Settled.{Settled as State}
 use Rattle.states.specs.Stepped.{stepped}

@@ -109,10 +109,7 @@ impl Engine {
         let sheet = self.loader.sheet();
         match self.settler.step(sheet, feed) {
             Ok(settled) => {
-                record(
-                    recorder,
-                    &settled.numbers[..sheet.tables.variables.len()],
-                );
+                record(recorder, &settled.numbers[..sheet.tables.variables.len()]);
                 self.condition = following(settled.last);
                 Ok(settled.last)
             }

@@ -10,7 +10,7 @@ ghost use Rattle.engine.specs.Law.{LawOfRuns};
 
 use crate::engine::Engine;
 use crate::events::{Event, meet};
-use calls::{Condition, Denial, NotLoaded};
+use calls::{Condition, Denial, NotLoaded, Report};
 use load::Loader;
 use record::Recorder;
 use states::Settler;
@@ -63,10 +63,14 @@ impl Engine {
         meet(&mut self.condition, Event::Abandon)
     }
 
-    // The engine's condition.
-    pub fn report(&self) -> Condition
+    // The engine's condition, with the count of states where a run is open.
+    pub fn report(&self) -> Report
         ensures { told (to_report result) ≡ report_of (meant self.now).standing }
     {
-        self.condition
+        match self.condition {
+            Condition::Idle => Report::Idle,
+            Condition::Open => Report::Open(self.settler.state()),
+            Condition::Ended(ending) => Report::Ended(ending),
+        }
     }
 }

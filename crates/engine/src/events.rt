@@ -25,8 +25,9 @@ pub(crate) fn meet(condition: &mut Condition, event: Event) -> Result<(), Denial
     match (&mut *condition, event) {
         (Condition::Open, Event::Load | Event::Begin) => Err(Denial::RunIsOpen),
         (Condition::Idle | Condition::Ended(_), Event::Load | Event::Begin) => Ok(()),
-        (Condition::Idle | Condition::Ended(_), Event::Advance(_, _) | Event::Abandon) =>
-            Err(Denial::NoRunIsOpen),
+        (Condition::Idle | Condition::Ended(_), Event::Advance(_, _) | Event::Abandon) => Err(
+            Denial::NoRunIsOpen,
+        ),
         (Condition::Open, Event::Advance(states, own)) => {
             if !(1..=MOST_STATES).contains(&states) {
                 Err(Denial::WrongStates)

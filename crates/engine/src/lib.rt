@@ -8,4 +8,4 @@ mod events;
 mod looking;
 
 pub use crate::engine::Engine;
-pub use calls::{Cause, Condition, Denial, Ending, NotAdvanced, NotLoaded, Progress};
+pub use calls::{Cause, Denial, Ending, NotAdvanced, NotLoaded, Progress, Report};

@@ -1,11 +1,14 @@
-// What is recorded.
+// What is recorded, and what sheet is held.
 ghost use Rattle.std.specs.Prelude.{◌≡◌};
+ghost use Rattle.load.specs.Naming.{NameOf};
 ghost use Rattle.calls.specs.Calls.{look_of};
 ghost use Rattle.calls.specs.Meant.{recording};
 ghost use Rattle.calls.specs.Told.{told, to_look};
+ghost use Rattle.engine.specs.Held.{meant};
 
 use crate::engine::Engine;
 use calls::Denial;
+use load::Sheet;
 use record::Recorder;
 
 impl Engine {
@@ -21,8 +24,20 @@ impl Engine {
         if state >= recorder.count() {
             return Err(Denial::NoSuchState);
         }
-        recorder
-            .look(state, variable)
-            .ok_or(Denial::NoSuchVariable)
+        recorder.look(state, variable).ok_or(Denial::NoSuchVariable)
+    }
+    // The sheet that is held.
+    pub fn sheet(&self) -> &Sheet
+        ensures { result.now ≡ self.now.loader.sheet }
+    {
+        self.loader.sheet()
+    }
+
+    // The name of variable `k` of the sheet that a text spells, as the text's own bytes. None where the text is no sheet or has no such variable.
+    pub fn variable_name<'a>(&mut self, text: &'a [u8], k: usize) -> Option<&'a [u8]>
+        ensures name { NameOf text.entry k result }
+        ensures same { meant self.new ≡ meant self.old }
+    {
+        self.loader.variable_name(text, k)
     }
 }

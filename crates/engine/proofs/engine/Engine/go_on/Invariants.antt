@@ -14,7 +14,7 @@ invariant-loop-i g l =
     let R = g.R.Recorder in
     let S = under (sheet_of l.initial.self.loader.sheet) (g.F.Feed.readings l.feed) in
     ((a : Told) (t : Standing) (r : Recording) → Settled S (l.states - l._i) (recording R.states R.breadth R.spare l.recorder) (held l.self.settler.board) a t r
-      → Settled S l.states (recording R.states R.breadth R.spare l.initial.recorder) (held l.initial.self.settler.board) a t r)
+    → Settled S l.states (recording R.states R.breadth R.spare l.initial.recorder) (held l.initial.self.settler.board) a t r)
     × (l.self.condition ≡ Open)
     × (R.breadth l.recorder ≡ vec_len l.self.loader.sheet.tables.variables)
     × (length (R.states l.recorder) ≡ l.self.settler.state)

@@ -1,5 +1,5 @@
 -- What comes of one state more, by the answer of the step.
-use Rattle.std.proofs.Common.{◌≡◌, ℕ, ◌<◌, take, Ok, vec_len, ap, sym, ◌∙◌, subst, arith, rules}
+use Rattle.std.proofs.Common.{ℕ, ◌<◌, take, Ok, vec_len, ap, sym, ◌∙◌, subst, arith, rules}
 use Rattle.sheet.specs.declared.kept.Sheet.{Sheet}
 use Rattle.meaning.specs.Intervals.{under}
 use Rattle.meaning.specs.Runs.{stopped, Steps}
