@@ -13,7 +13,7 @@ pub returns-in_err-z-in-Val-clause-answer : goal.returns-in_err-z-in-Val-clause-
 returns-in_err-z-in-Val-clause-answer t c =
     c.from_residual.ensures ∙ c.in_err-z-in-Val.ensures
     ∙ variable_worth c.args.sheet.now c.args.values.now c.args.end c.args.number c.index-2.result.now c.in-Val.x c.from-x.result c.index-in-Val.result.now c.value_at.result
-      c.requires.there c.index-2.ensures c.in-Val.is c.from-x.ensures c.index-in-Val.ensures c.value_at.ensures
+    c.requires.there c.index-2.ensures c.in-Val.is c.from-x.ensures c.index-in-Val.ensures c.value_at.ensures
 
 pub returns-in_err-x-in-Pair-clause-answer : goal.returns-in_err-x-in-Pair-clause-answer
 returns-in_err-x-in-Pair-clause-answer t c =
