@@ -1,4 +1,4 @@
--- What working out a number finds in a sheet, and what it leaves in the slots.
+-- What working out a number finds in a sheet, and what it leaves in the memory.
 use Rattle.std.proofs.Common.{◌≡◌, ℕ, ◌<◌, ◌≤◌, Bool, true, false, List, length, get_or, set, ℤ, pos, vec_items, vec_len, Some, None, Option, sym, ap, ◌∙◌, subst, ⊎_elim, arith, w64, nat_abs, to_z, of_z}
 use Rattle.std.proofs.lemmas.Int.{to_z-of_z}
 use Rattle.std.proofs.lemmas.List.{get_or_read, get_or_read_under, get_or-set_same, get_or-set_other}
@@ -30,7 +30,7 @@ module _
   inside = rw (← s.tables.expressions.ok.0) there
 
   -- it keeps the rules of a sheet
-  pub lawful : expression_ok (length (vec_items s.tables.variables)) i e ≡ true
+  lawful : expression_ok (length (vec_items s.tables.variables)) i e ≡ true
   lawful = sym (ap (expression_ok (length (vec_items s.tables.variables)) i) stands) ∙ s.operands i inside
 
   -- what is known of its number comes from what is known of its operands

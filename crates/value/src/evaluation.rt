@@ -29,8 +29,8 @@ pub fn evaluate(
     worked(sheet, values, end, place, memo)
 }
 
-// The number of an expression that is there. Each is worked out at most once in an evaluation: its number is kept, or it is unknown.
-// An operation with an unknown operand is unknown, so the first unknown ends the evaluation, and only known numbers are kept.
+// The number of an expression that is there. An operation with an unknown operand is unknown, so the first unknown ends the whole
+// evaluation. So each number that is kept is a known one, and none is worked out twice.
 fn worked(
     sheet: &Sheet,
     values: &[Option<i64>],
