@@ -1,4 +1,4 @@
 -- What the contracts of this crate say: the numbers of expressions, and what evaluation promises of them.
 pub mod Values
 pub mod Claims
-pub mod Slots
+pub mod Memory

@@ -1,11 +1,11 @@
 // The number of an expression.
-ghost use Rattle.std.specs.Prelude.{◌≡◌, ◌<◌, length, None, replicate, vec_len, slice_index_or};
+ghost use Rattle.std.specs.Prelude.{◌≡◌, ℕ, ◌<◌, None, vec_len, slice_index_or};
 ghost use Rattle.value.specs.Claims.{worth, Total, Within};
-ghost use Rattle.value.specs.Slots.{AllRight};
+ghost use Rattle.value.specs.Memory.{AllRight};
 
 use crate::memo::Memo;
-use crate::operate::{ended, fitting, negated, paired};
-use crate::parts::{End, Slot};
+use crate::operate::{applied, ended, fitting, negated};
+use crate::parts::End;
 use sheet::{Expression, Sheet};
 
 // The number of expression `number` of `sheet`, or none where it is not yet known.
@@ -25,51 +25,44 @@ pub fn evaluate(
     if place >= sheet.tables.expressions.len() {
         return Some(0);
     }
-    let slots = &mut memo.slots[0..place + 1];
-    clear(slots);
-    worked(sheet, values, end, place, slots)
+    memo.seen[0..place + 1].fill(false);
+    worked(sheet, values, end, place, memo)
 }
 
-// Forgets all that was seen.
-fn clear(slots: &mut [Slot])
-    ensures { slots.new ≡ replicate (length slots.old) None }
-{
-    slots.fill(None);
-}
-
-// The number of an expression that is there. Its slot has it, or is given it now, so each number is worked out once.
+// The number of an expression that is there. An operation with an unknown operand is unknown, so the first unknown ends the whole
+// evaluation. So each number that is kept is a known one, and none is worked out twice.
 fn worked(
     sheet: &Sheet,
     values: &[Option<i64>],
     end: End,
     number: usize,
-    slots: &mut [Slot],
+    memo: &mut Memo,
 ) -> Option<i64>
     requires there { number < vec_len sheet.now.tables.expressions }
-    requires room { number < length slots.old }
-    requires right { AllRight (worth sheet.now values.now end) slots.old }
+    requires right { AllRight (worth sheet.now values.now end) number memo.old }
     ensures answer { result ≡ worth sheet.now values.now end number }
-    ensures right { AllRight (worth sheet.now values.now end) slots.new }
+    ensures right { (n : ℕ) → AllRight (worth sheet.now values.now end) n memo.old → AllRight (worth sheet.now values.now end) n memo.new }
 {
-    if let Some(v) = slots[number] {
-        return v;
+    if memo.seen[number] {
+        return Some(memo.numbers[number]);
     }
-    let v = match sheet.tables.expressions[number] {
-        Expression::Num(c) => Some(i64::from(c)),
+    let z = match sheet.tables.expressions[number] {
+        Expression::Num(c) => i64::from(c),
         Expression::Val(x) => {
             let x = usize::from(x);
-            fitting(sheet.tables.variables[x], value_at(values, x))
+            fitting(sheet.tables.variables[x], value_at(values, x))?
         }
         Expression::Pair(o, a, b) => {
-            let x = worked(sheet, values, end, usize::from(a), slots);
-            let y = worked(sheet, values, end, usize::from(b), slots);
-            paired(o, x, y)
+            let x = worked(sheet, values, end, usize::from(a), memo)?;
+            let y = worked(sheet, values, end, usize::from(b), memo)?;
+            applied(o, x, y)
         }
-        Expression::Not(a) => negated(worked(sheet, values, end, usize::from(a), slots)),
-        Expression::Last => ended(end),
+        Expression::Not(a) => negated(worked(sheet, values, end, usize::from(a), memo)?),
+        Expression::Last => ended(end)?,
     };
-    slots[number] = Some(v);
-    v
+    memo.seen[number] = true;
+    memo.numbers[number] = z;
+    Some(z)
 }
 
 // The value at `x`, or none past the end.

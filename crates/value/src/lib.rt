@@ -9,7 +9,7 @@ mod parts;
 pub use crate::evaluation::evaluate;
 pub use crate::memo::Memo;
 pub use crate::operate::in_range;
-pub use crate::parts::{End, Slot};
+pub use crate::parts::End;
 
 #[cfg(test)]
 mod tests;

@@ -1,7 +1,6 @@
 // What the parts of an expression make of the numbers that are known.
 ghost use Rattle.std.specs.Prelude.{◌≡◌, ◌≤◌, unsigned_abs};
-ghost use Rattle.value.specs.Values.{apply, denied, in_range, once, twice, last_bit, ranged};
-ghost use Rattle.value.specs.Claims.{Within};
+ghost use Rattle.value.specs.Values.{apply, denied, in_range, last_bit, ranged};
 
 use crate::parts::End;
 use sheet::{Operator, Variable};
@@ -22,19 +21,11 @@ pub(crate) fn applied(operator: Operator, x: i64, y: i64) -> i64
     }
 }
 
-// What an operator makes of two numbers, where both are known.
-pub(crate) fn paired(operator: Operator, x: Option<i64>, y: Option<i64>) -> Option<i64>
-    requires { (Within 1000000000 x) × (Within 1000000000 y) }
-    ensures { result ≡ twice (apply operator) x y }
+// 1 for 0 and 0 for any other number.
+pub(crate) fn negated(x: i64) -> i64
+    ensures { result ≡ denied x }
 {
-    Some(applied(operator, x?, y?))
-}
-
-// 1 for 0 and 0 for any other number, where it is known.
-pub(crate) fn negated(x: Option<i64>) -> Option<i64>
-    ensures { result ≡ once denied x }
-{
-    x.map(|a| i64::from(a == 0))
+    i64::from(x == 0)
 }
 
 // The number of `last`, where the end is known.

@@ -8,6 +8,3 @@ pub enum End {
     On,
     Last,
 }
-
-// What one evaluation has seen of an expression: nothing yet, or what is known of its number.
-pub type Slot = Option<Option<i64>>;

@@ -1,6 +1,6 @@
 // What the parts of an expression make of numbers, and what a new memory holds.
 use crate::memo::Memo;
-use crate::operate::{applied, ended, negated, paired};
+use crate::operate::{applied, ended, negated};
 use crate::parts::End;
 use sheet::Operator;
 use std::test::Fail;
@@ -20,22 +20,22 @@ fn operators(rt: HostRuntime) {
     assert_eq!(rt; applied(Operator::Either, -5, 0), 1);
 }
 
-// What is not known makes nothing known.
+// A `not` is 1 or 0, and the number of `last` is known where the end is.
 #[test]
-fn unknown(rt: HostRuntime) {
-    assert_eq!(rt; paired(Operator::Either, Some(1), None), None);
-    assert_eq!(rt; paired(Operator::Add, Some(1), Some(2)), Some(3));
-    assert_eq!(rt; negated(Some(-5)), Some(0));
-    assert_eq!(rt; negated(None), None);
+fn others(rt: HostRuntime) {
+    assert_eq!(rt; negated(-5), 0);
+    assert_eq!(rt; negated(0), 1);
     assert_eq!(rt; ended(End::Unknown), None);
+    assert_eq!(rt; ended(End::On), Some(0));
     assert_eq!(rt; ended(End::Last), Some(1));
 }
 
-// A new memory has a slot for each expression, and has seen nothing.
+// A new memory has a place for each expression, and has seen nothing.
 #[test]
 fn memory(rt: HostRuntime) -> Result<(), Fail> {
     let memo = Memo::new(rt.alloc())?;
-    assert_eq!(rt; memo.slots.len(), 200);
-    assert!(rt; memo.slots[199].is_none());
+    assert_eq!(rt; memo.seen.len(), 200);
+    assert_eq!(rt; memo.numbers.len(), 200);
+    assert!(rt; !memo.seen[199]);
     Ok(())
 }

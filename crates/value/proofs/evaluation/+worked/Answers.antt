@@ -1,92 +1,104 @@
--- Each expression's operands are lower, and what is known of them gives what is known of it. So its slot is filled rightly.
-use Rattle.std.proofs.Common.{◌≡◌, ℕ, length, get_or, ℤ, Some, None, vec_items, Option, sym, ap, ◌∙◌, subst, arith, w32, SFits, rules}
+-- Each expression's operands are lower, and what is known of them gives what is known of it. So what is kept for it is right.
+use Rattle.std.proofs.Common.{◌≡◌, ℕ, ℤ, Some, Option, sym, ap, ◌∙◌, subst, arith, w64, to_z, of_z}
 use Rattle.std.proofs.lemmas.Int.{ints}
-use Rattle.std.proofs.lemmas.Bool.{ltb-true}
-use Rattle.sheet.specs.declared.parts.Variable.{Variable}
-use Rattle.sheet.specs.declared.parts.Expression.TheVariants.{Num, Val, Pair, Not, Last}
-use Rattle.value.specs.Values.{apply, denied, once, twice, ranged}
+use Rattle.sheet.specs.declared.parts.Expression.TheVariants.{Num, Pair, Not, Last}
+use Rattle.value.specs.Values.{apply, denied, once, twice}
 use Rattle.value.specs.Claims.{worth}
-use Rattle.value.specs.Slots.{AllRight}
-use Rattle.value.proofs.Numbers.{pair_lower}
-use Rattle.value.proofs.Working.{lawful, worth-entry, worth_within, variable_read, filled_right}
+use Rattle.value.specs.Memory.{AllRight}
+use Rattle.value.proofs.Working.{worth-entry, variable_worth, worth_within, worth_kept, pair_known, filled_right}
 use Rattle.value.proofs.evaluation.+worked.Goals as goal
-use Rattle.value.proofs.evaluation.+worked.Goals.{in-Num, in-Val, in-Pair, in-Not, in-Last}
+use Rattle.value.proofs.evaluation.+worked.Goals.{in-Num, in-Val+in_ok-z-in-Val, in-Pair+in_ok-x-in-Pair+in_ok-y-in-Pair, in-Not+in_ok-worked-in-Not, in-Last+in_ok-z-in-Last}
 
-pub index-requires-in-Val : goal.index-requires-in-Val
-index-requires-in-Val t c =
-    let s = c.args.sheet.now in
-    let x = c.in-Val.x in
-    let l = ltb-true x (length (vec_items s.tables.variables)) (lawful s c.args.number c.index.result.now (Val x) c.requires.there c.index.ensures c.in-Val.is) in
-    omega (arith, s.tables.variables.ok.0)
+pub returns-in_err-z-in-Val-clause-answer : goal.returns-in_err-z-in-Val-clause-answer
+returns-in_err-z-in-Val-clause-answer t c =
+    c.from_residual.ensures ∙ c.in_err-z-in-Val.ensures
+    ∙ variable_worth c.args.sheet.now c.args.values.now c.args.end c.args.number c.index-2.result.now c.in-Val.x c.from-x.result c.index-in-Val.result.now c.value_at.result
+    c.requires.there c.index-2.ensures c.in-Val.is c.from-x.ensures c.index-in-Val.ensures c.value_at.ensures
 
-pub worked-x-requires : goal.worked-x-requires
-worked-x-requires t c =
-    let s = c.args.sheet.now in
-    let p = c.in-Pair in
-    let ok = lawful s c.args.number c.index.result.now (Pair p.o p.a p.b) c.requires.there c.index.ensures p.is in
-    let l = pair_lower (length (vec_items s.tables.variables)) c.args.number p.a p.b p.o ok in
-    (omega arith, (omega arith, (omega arith, c.requires.right)))
-
-pub worked-y-requires : goal.worked-y-requires
-worked-y-requires t c =
+pub returns-in_err-x-in-Pair-clause-answer : goal.returns-in_err-x-in-Pair-clause-answer
+returns-in_err-x-in-Pair-clause-answer t c =
     let s = c.args.sheet.now in
     let p = c.in-Pair in
-    let ok = lawful s c.args.number c.index.result.now (Pair p.o p.a p.b) c.requires.there c.index.ensures p.is in
-    let l = pair_lower (length (vec_items s.tables.variables)) c.args.number p.a p.b p.o ok in
-    (omega arith, (omega arith, (omega arith, c.worked-x.ensures.right)))
+    let g = worth s c.args.values.now c.args.end in
+    c.from_residual-in_err-x-in-Pair.ensures ∙ ap (λ (y : Option ℤ). twice (apply p.o) y (g p.b)) (c.in_err-x-in-Pair.ensures.answer ∙ ap g c.from.ensures)
+    ∙ sym (worth-entry s c.args.number c.index-2.result.now (Pair p.o p.a p.b) c.requires.there c.index-2.ensures p.is c.args.values.now c.args.end)
 
-pub paired-v-requires : goal.paired-v-requires
-paired-v-requires t c =
+pub returns-in_err-y-in-Pair-clause-answer : goal.returns-in_err-y-in-Pair-clause-answer
+returns-in_err-y-in-Pair-clause-answer t c =
     let s = c.args.sheet.now in
-    let g = worth s c.args.values.now c.args.end in (
-      worth_within s c.args.values.now c.args.end c.in-Pair.a c.worked-x.result (c.worked-x.ensures.answer ∙ ap g c.from-in-Pair.ensures),
-      worth_within s c.args.values.now c.args.end c.in-Pair.b c.worked-y.result (c.worked-y.ensures.answer ∙ ap g c.from-in-Pair-2.ensures),
+    let p = c.in-Pair in
+    let g = worth s c.args.values.now c.args.end in
+    c.from_residual-in_err-y-in-Pair.ensures ∙ ap (twice (apply p.o) (Some c.in_ok-x-in-Pair.x)) (c.in_err-y-in-Pair.ensures.answer ∙ ap g c.from-in-Pair.ensures)
+    ∙ ap (λ (y : Option ℤ). twice (apply p.o) y (g p.b)) (c.in_ok-x-in-Pair.ensures.answer ∙ ap g c.from.ensures)
+    ∙ sym (worth-entry s c.args.number c.index-2.result.now (Pair p.o p.a p.b) c.requires.there c.index-2.ensures p.is c.args.values.now c.args.end)
+
+pub applied-z-requires : goal.applied-z-requires
+applied-z-requires t c =
+    let s = c.args.sheet.now in
+    let vs = c.args.values.now in
+    let x = c.in_ok-x-in-Pair.x in
+    let y = c.in_ok-y-in-Pair.y in
+    let i = c.from.result in
+    let j = c.from-in-Pair.result in (
+      worth_within s vs c.args.end i (Some (to_z w64 (of_z w64 x))) (worth_kept s vs c.args.end i x c.in_ok-x-in-Pair.ensures.answer),
+      worth_within s vs c.args.end j (Some (to_z w64 (of_z w64 y))) (worth_kept s vs c.args.end j y c.in_ok-y-in-Pair.ensures.answer),
     )
 
-pub worked-requires : goal.worked-requires
-worked-requires t c =
+pub returns-in_err-worked-in-Not-clause-answer : goal.returns-in_err-worked-in-Not-clause-answer
+returns-in_err-worked-in-Not-clause-answer t c =
     let s = c.args.sheet.now in
-    let a = c.in-Not.a in
-    let l = ltb-true a c.args.number (lawful s c.args.number c.index.result.now (Not a) c.requires.there c.index.ensures c.in-Not.is) in
-    (omega arith, (omega arith, (omega arith, c.requires.right)))
+    c.from_residual-in_err-worked-in-Not.ensures ∙ ap (once denied) (c.in_err-worked-in-Not.ensures.answer ∙ ap (worth s c.args.values.now c.args.end) c.from-in-Not.ensures)
+    ∙ sym (worth-entry s c.args.number c.index-2.result.now (Not c.in-Not.a) c.requires.there c.index-2.ensures c.in-Not.is c.args.values.now c.args.end)
+
+pub returns-in_err-z-in-Last-clause-answer : goal.returns-in_err-z-in-Last-clause-answer
+returns-in_err-z-in-Last-clause-answer t c =
+    c.from_residual-in_err-z-in-Last.ensures ∙ c.in_err-z-in-Last.ensures
+    ∙ sym (worth-entry c.args.sheet.now c.args.number c.index-2.result.now Last c.requires.there c.index-2.ensures c.in-Last.is c.args.values.now c.args.end)
 
 pub returns : goal.returns
 returns t c =
     let s = c.args.sheet.now in
-    let i = c.args.number in
-    let e = c.index.result.now in
     let vs = c.args.values.now in
+    let i = c.args.number in
+    let e = c.index-2.result.now in
     let g = worth s vs c.args.end in
-    let both : (c.match-index.v ≡ g i) × AllRight g c.match-index.slots = elim c.match-index.branch [
-      | in-Num w ↦
-          let f : SFits w32 w.in-Num.c = search rules in (
-            w.v-is ∙ ap (λ (z : ℤ). Some z) (omega (arith, ints, w.from.ensures)) ∙ sym (worth-entry s i e (Num w.in-Num.c) c.requires.there c.index.ensures w.in-Num.is vs c.args.end),
-            subst (AllRight g) (sym w.slots-is) c.requires.right,
-          )
-      | in-Val w ↦
-          let x = w.in-Val.x in
-          let l = ltb-true x (length (vec_items s.tables.variables)) (lawful s i e (Val x) c.requires.there c.index.ensures w.in-Val.is) in
-          let k = w.from-x.ensures in
-          let v = variable_read s x w.index-in-Val.result.now l (w.index-in-Val.ensures ∙ ap (λ (i : ℕ). get_or (vec_items s.tables.variables) i w.index-in-Val.result.now) k) in (
-            w.v-is ∙ w.fitting-v.ensures ∙ ap (ranged w.index-in-Val.result.now) (w.value_at.ensures ∙ ap (λ (i : ℕ). get_or vs i None) k) ∙ ap (λ (y : Variable). ranged y (get_or vs x None)) v
-                ∙ sym (worth-entry s i e (Val x) c.requires.there c.index.ensures w.in-Val.is vs c.args.end),
-            subst (AllRight g) (sym w.slots-is) c.requires.right,
-          )
-      | in-Pair w ↦
-          let p = w.in-Pair in (
-            w.v-is ∙ w.paired-v.ensures ∙ ap (λ (y : Option ℤ). twice (apply p.o) y w.worked-y.result) (w.worked-x.ensures.answer ∙ ap g w.from-in-Pair.ensures)
-                ∙ ap (twice (apply p.o) (g p.a)) (w.worked-y.ensures.answer ∙ ap g w.from-in-Pair-2.ensures)
-                ∙ sym (worth-entry s i e (Pair p.o p.a p.b) c.requires.there c.index.ensures p.is vs c.args.end),
-            subst (AllRight g) (sym w.slots-is) w.worked-y.ensures.right,
-          )
-      | in-Not w ↦ (
-        w.v-is ∙ w.negated-v.ensures ∙ ap (once denied) (w.worked.ensures.answer ∙ ap g w.from-in-Not.ensures)
-            ∙ sym (worth-entry s i e (Not w.in-Not.a) c.requires.there c.index.ensures w.in-Not.is vs c.args.end),
-        subst (AllRight g) (sym w.slots-is) w.worked.ensures.right,
+    let m = c.match-index.memo in
+    let z = to_z w64 c.match-index.z-bits in
+    let kept = worth_kept s vs c.args.end in
+    let both : (Some z ≡ g i) × ((n : ℕ) → AllRight g n c.args.memo.now → AllRight g n m) = elim c.match-index.branch [
+      | in-Num w ↦ (
+        ap (λ (y : ℤ). Some y) w.z-is
+            ∙ kept i w.from-z.result (ap (λ (y : ℤ). Some y) (omega (arith, ints, w.from-z.ensures)) ∙ sym (worth-entry s i e (Num w.in-Num.c) c.requires.there c.index-2.ensures w.in-Num.is vs c.args.end)),
+        λ n all. subst (AllRight g n) (sym w.memo-is) all,
       )
-      | in-Last w ↦ (
-        w.v-is ∙ w.ended-v.ensures ∙ sym (worth-entry s i e Last c.requires.there c.index.ensures w.in-Last.is vs c.args.end),
-        subst (AllRight g) (sym w.slots-is) c.requires.right,
+      | in-Val+in_ok-z-in-Val w ↦ (
+        ap (λ (y : ℤ). Some y) w.z-is
+            ∙ kept i w.in_ok-z-in-Val.z (w.in_ok-z-in-Val.ensures
+            ∙ variable_worth s vs c.args.end i e w.in-Val.x w.from-x.result w.index-in-Val.result.now w.value_at.result c.requires.there c.index-2.ensures w.in-Val.is w.from-x.ensures w.index-in-Val.ensures w.value_at.ensures),
+        λ n all. subst (AllRight g n) (sym w.memo-is) all,
+      )
+      | in-Pair+in_ok-x-in-Pair+in_ok-y-in-Pair w ↦
+          let p = w.in-Pair in
+          let x = w.in_ok-x-in-Pair.x in
+          let y = w.in_ok-y-in-Pair.y in
+          let f = kept w.from.result x w.in_ok-x-in-Pair.ensures.answer ∙ ap g w.from.ensures in
+          let h = kept w.from-in-Pair.result y w.in_ok-y-in-Pair.ensures.answer ∙ ap g w.from-in-Pair.ensures in (
+            ap (λ (y : ℤ). Some y) w.z-is
+                ∙ kept i w.applied-z.result (pair_known p.o (to_z w64 (of_z w64 x)) (to_z w64 (of_z w64 y)) w.applied-z.result (g p.a) (g p.b) w.applied-z.ensures f h
+                ∙ sym (worth-entry s i e (Pair p.o p.a p.b) c.requires.there c.index-2.ensures p.is vs c.args.end)),
+            λ n all. subst (AllRight g n) (sym w.memo-is) (w.worked-in-Pair.ensures.right n (w.worked.ensures.right n all)),
+          )
+      | in-Not+in_ok-worked-in-Not w ↦
+          let f = kept w.from-in-Not.result w.in_ok-worked-in-Not.field-0 w.in_ok-worked-in-Not.ensures.answer ∙ ap g w.from-in-Not.ensures in (
+            ap (λ (y : ℤ). Some y) w.z-is
+                ∙ kept i w.negated-z.result (ap (λ (y : ℤ). Some y) w.negated-z.ensures ∙ ap (once denied) f
+                ∙ sym (worth-entry s i e (Not w.in-Not.a) c.requires.there c.index-2.ensures w.in-Not.is vs c.args.end)),
+            λ n all. subst (AllRight g n) (sym w.memo-is) (w.worked-in-Not.ensures.right n all),
+          )
+      | in-Last+in_ok-z-in-Last w ↦ (
+        ap (λ (y : ℤ). Some y) w.z-is
+            ∙ kept i w.in_ok-z-in-Last.z (w.in_ok-z-in-Last.ensures ∙ sym (worth-entry s i e Last c.requires.there c.index-2.ensures w.in-Last.is vs c.args.end)),
+        λ n all. subst (AllRight g n) (sym w.memo-is) all,
       )
     ] in
-    record { answer = both.0; right = filled_right g c.match-index.slots i c.match-index.v both.1 (omega arith) both.0 }
+    record { answer = both.0; right = λ n all k h. filled_right g m.seen.items m.numbers.items i z k (both.1 n all k h) (omega arith) both.0 }
