@@ -2,3 +2,4 @@
 pub mod Store
 pub mod Held
 pub mod Answers
+pub mod Buckets
