@@ -11,10 +11,10 @@ use std::alloc::{AllocError, Global};
 
 const BUCKETS: usize = 256;
 
-// What stands for the place of a duty in a bucket to which none has come.
-const NO_PLACE: u16 = 512;
+// What stands for a place in a bucket to which no duty has come: it is past every list's end.
+const NO_PLACE: u16 = MOST_DUTIES as u16;
 
-// Duties in the order in which they came, with a table that says quickly of most duties whether they are there.
+// A list of duties in the order in which they came, with a table that says quickly of most duties whether the list has them.
 #[derive(Drop)]
 pub(crate) struct DutyList {
     list: Vec<Duty>,
@@ -36,7 +36,7 @@ fn bucket(duty: &Duty) -> usize
 }
 
 impl DutyList {
-    // A list without duties, with memory for all that it may ever have.
+    // A list without duties. Its memory is reserved here.
     pub(crate) fn new(heap: Global) -> Result<DutyList, AllocError>
         ensures { IfOk result (λ l. l.list.items ≡ []) }
     {
@@ -47,6 +47,7 @@ impl DutyList {
         })
     }
 
+    // How many duties there are.
     pub(crate) fn len(&self) -> usize
         ensures { result ≡ vec_len self.now.list }
     {
@@ -60,8 +61,8 @@ impl DutyList {
         self.list.get(place).copied()
     }
 
-    // Whether a duty is in the list. Mostly its bucket decides: no duty has come to it, or this one did last.
-    fn has(&self, duty: &Duty) -> bool
+    // Whether a duty is in the list. Mostly its bucket says so: no duty has come to it, or this one came last.
+    pub(crate) fn has(&self, duty: &Duty) -> bool
         ensures { result ≡ has_duty duty.now self.now.list.items }
     {
         match self.list.get(usize::from(self.places[bucket(duty)])) {
@@ -86,7 +87,7 @@ impl DutyList {
         Ok(true)
     }
 
-    // Adds a duty that is not there yet.
+    // Adds a duty that is not there yet. There is room for it.
     pub(crate) fn push(&mut self, duty: Duty)
         requires { vec_len self.old.list < 512 }
         ensures { self.new.list.items ≡ self.old.list.items ++ duty ∷ [] }
@@ -96,10 +97,10 @@ impl DutyList {
         self.list.push_reserved(duty);
     }
 
-    // Drops all duties, and their places.
+    // Drops all duties, and their places in the table.
     pub(crate) fn clear(&mut self)
         ensures items { self.new.list.items ≡ [] }
-        ensures places { self.new.places ≡ replicate 256 512 }
+        ensures places { self.new.places ≡ replicate BUCKETS NO_PLACE }
     {
         self.list.clear();
         self.places = [NO_PLACE; BUCKETS];
