@@ -1,5 +1,5 @@
 -- The lists trade places, and the rows that go on are kept.
-use Rattle.std.proofs.Common.{◌≡◌, List, vec_items, vec_len, vec_capacity, ap, ◌∙◌, arith}
+use Rattle.std.proofs.Common.{List, vec_items, ap, ◌∙◌, arith}
 use Rattle.board.specs.declared.parts.Row.{Row}
 use Rattle.board.specs.Held.{store}
 use Rattle.board.specs.Store.{rising}
