@@ -9,6 +9,7 @@ use crate::board::MOST_DUTIES;
 use meaning::{Duty, Stop};
 use std::alloc::{AllocError, Global};
 
+// How many buckets a list has.
 const BUCKETS: usize = 256;
 
 // What stands for a place in a bucket to which no duty has come: it is past every list's end.
@@ -25,7 +26,7 @@ pub(crate) struct DutyList {
     ghost listed: { listed places list.items ≡ true },
 }
 
-// The bucket of a duty.
+// The bucket of a duty. Each of its three parts counts; any other function of it would be as right.
 fn bucket(duty: &Duty) -> usize
     ensures { result ≡ bucket duty.now }
 {
