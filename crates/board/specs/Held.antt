@@ -9,7 +9,7 @@ use Rattle.board.specs.Store.{Store, work}
 
 -- the tables of a board
 abbrev pub store : Board → Store
-store b = record { values = b.values; rows = vec_items b.rows; duties = vec_items b.duties; later = vec_items b.carried; next = b.next }
+store b = record { values = b.values; rows = vec_items b.rows; duties = vec_items b.duties.list; later = vec_items b.carried.list; next = b.next }
 
 -- the work that they are
 abbrev pub held : Board → Work

@@ -2,8 +2,8 @@
 ghost use Rattle.std.specs.Prelude.{◌≡◌, ◌+◌, ◌≤◌, true, vec_len, vec_capacity};
 ghost use Rattle.board.specs.Store.{rising};
 
+use crate::duties::DutyList;
 use crate::parts::Row;
-use meaning::Duty;
 use sheet::MOST_VARIABLES;
 
 // The most duties in a list, and the most spans that are held at once.
@@ -12,19 +12,19 @@ pub const MOST_DUTIES: usize = 512;
 pub const MOST_SPANS: usize = 64;
 
 // The work of one state: the variables' numbers, the spans with their ends, this state's duties and those carried to the next.
-// An array, and lists that are reserved once: nothing allocates after a start.
+// Arrays, and lists that are reserved once: nothing allocates after a start.
 // Clauses read that work by `held`, and not as the board's model: a work has functions in it, and a model's value may have none.
 #[derive(Drop)]
 pub struct Board {
     pub(crate) values: [Option<i64>; MOST_VARIABLES],
     pub(crate) rows: Vec<Row>,
-    pub(crate) duties: Vec<Duty>,
-    pub(crate) carried: Vec<Duty>,
+    pub(crate) duties: DutyList,
+    pub(crate) carried: DutyList,
     // the serial of the next span, and what it was when this state began
     pub(crate) next: u32,
     pub(crate) base: u32,
-    ghost few: { (vec_len rows ≤ 64) × (vec_len duties ≤ 512) × (vec_len carried ≤ 512) },
-    ghost room: { (64 ≤ vec_capacity rows) × (512 ≤ vec_capacity duties) × (512 ≤ vec_capacity carried) },
+    ghost few: { vec_len rows ≤ 64 },
+    ghost room: { 64 ≤ vec_capacity rows },
     ghost ordered: { rising 0 rows.items next ≡ true },
     ghost counted: { (next ≤ base + vec_len rows) × (base ≤ 4200000) },
 }

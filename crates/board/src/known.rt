@@ -14,7 +14,7 @@ impl Board {
     pub fn duty(&self, place: usize) -> Option<Duty>
         ensures { result ≡ slice_get (held self.now).duties place }
     {
-        self.duties.get(place).copied()
+        self.duties.get(place)
     }
 
     // The span at a place, in the order of opening, or none past the end.

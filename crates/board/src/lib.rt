@@ -3,6 +3,7 @@
 
 mod answers;
 mod board;
+mod duties;
 mod ends;
 mod known;
 mod lists;

@@ -3,7 +3,8 @@ ghost use Rattle.std.specs.Prelude.{◌≡◌, [], IfOk};
 ghost use Rattle.meaning.specs.Runs.{begun};
 ghost use Rattle.board.specs.Held.{held};
 
-use crate::board::{Board, MOST_DUTIES, MOST_SPANS};
+use crate::board::{Board, MOST_SPANS};
+use crate::duties::DutyList;
 use sheet::MOST_VARIABLES;
 use std::alloc::{AllocError, Global};
 
@@ -13,8 +14,8 @@ impl Board {
         ensures { IfOk result (λ b. held b ≡ begun [] [] 0) }
     {
         let rows = Vec::with_capacity(heap, MOST_SPANS)?;
-        let duties = Vec::with_capacity(heap, MOST_DUTIES)?;
-        let carried = Vec::with_capacity(heap, MOST_DUTIES)?;
+        let duties = DutyList::new(heap)?;
+        let carried = DutyList::new(heap)?;
         Ok(Board {
             values: [None; MOST_VARIABLES],
             rows,

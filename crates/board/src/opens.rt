@@ -36,7 +36,7 @@ impl Board {
     // A new span, and the duty of its body.
     fn push_span(&mut self, opening: Opening)
         requires spans { vec_len self.old.rows < 64 }
-        requires duties { vec_len self.old.duties < 512 }
+        requires duties { vec_len self.old.duties.list < 512 }
         ensures { held self.new ≡ with_span opening (held self.old) }
     {
         let serial = self.next;
@@ -48,7 +48,7 @@ impl Board {
             },
             end: opening.starts,
         });
-        self.duties.push_reserved(Duty {
+        self.duties.push(Duty {
             statement: opening.body,
             number: None,
             span: serial,

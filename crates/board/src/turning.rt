@@ -6,7 +6,7 @@ ghost use Rattle.board.specs.Store.{kept_rows};
 
 use crate::board::Board;
 use crate::parts::Row;
-use meaning::{Duty, Span};
+use meaning::Span;
 use sheet::MOST_VARIABLES;
 use value::End;
 
@@ -45,7 +45,7 @@ impl Board {
         self.duties.clear();
         self.carried.clear();
         self.rows.clear();
-        self.duties.push_reserved(meaning::first_duty(run));
+        self.duties.push(meaning::first_duty(run));
         self.rows.push_reserved(Row {
             span: Span {
                 serial: 0,

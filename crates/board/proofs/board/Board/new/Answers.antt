@@ -3,4 +3,4 @@ use Rattle.board.proofs.Turned.{new_means}
 use Rattle.board.proofs.board.Board.new.Goals as goal
 
 pub returns : goal.returns
-returns c = new_means _ _ _ c.in_ok-rows.ensures.items c.in_ok-duties.ensures.items c.in_ok-carried.ensures.items
+returns c = new_means _ _ _ c.in_ok-rows.ensures.items c.in_ok-duties.ensures c.in_ok-carried.ensures

@@ -10,11 +10,11 @@ pub invariant_of-self : goal.invariant_of-self
 invariant_of-self c =
     let b = c.args.self.now in
     record {
-      few = (omega arith, omega arith, omega arith);
-      room = (omega arith, omega arith, omega arith);
+      few = omega arith;
+      room = omega arith;
       ordered = ap (λ (x : List Row). rising 0 x (b.next + 1)) c.push_reserved.ensures.items ∙ rising-push 0 (vec_items b.rows) b.next (new_row c.args.opening b.next) refl b.ordered;
       counted = (omega arith, omega arith);
     }
 
 pub returns : goal.returns
-returns c = let b = c.args.self.now in push_means (store b) c.args.opening _ _ b.ordered c.push_reserved.ensures.items c.push_reserved-2.ensures.items
+returns c = let b = c.args.self.now in push_means (store b) c.args.opening _ _ b.ordered c.push_reserved.ensures.items c.push.ensures

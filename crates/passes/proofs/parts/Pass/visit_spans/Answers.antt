@@ -9,4 +9,4 @@ use Rattle.passes.proofs.parts.Pass.visit_spans.Goals as goal
 pub returns-clause-visited : goal.returns-clause-visited
 returns-clause-visited g c =
     let b = c.args.board.now in
-    c.visit_all.ensures.visited ∙ sym (spans_as 65 0 (held b) (omega arith) (omega (arith, length-map (vec_items b.rows) span_of, b.rows.ok.0, b.few.0)))
+    c.visit_all.ensures.visited ∙ sym (spans_as 65 0 (held b) (omega arith) (omega (arith, length-map (vec_items b.rows) span_of, b.rows.ok.0, b.few)))
