@@ -69,4 +69,4 @@ serials S k w u c s = kept_settles S (Counted w) (counted_kept w S) k w u c s re
 
 -- which stays low, since a board has few spans
 pub next_young : (S : Setting) (k : ℕ) (b c : Board) → Settles S k (held b) (goes (held c) false) → b.next ≤ 64 * k + 1 → c.next ≤ 64 * (k + 1) + 1
-next_young S k b c s h = omega (arith, serials S k (held b) (held c) false s, length-map (vec_items c.rows) span_of, c.rows.ok.0, c.few.0)
+next_young S k b c s h = omega (arith, serials S k (held b) (held c) false s, length-map (vec_items c.rows) span_of, c.rows.ok.0, c.few)
