@@ -1,6 +1,6 @@
 // What a pass visits, and the visits from first to last.
-ghost use Rattle.std.specs.Prelude.{◌≡◌, ℕ, suc, ◌≤◌, ◌<◌, true, false, List, length, Some as some, IfOk, OnOk};
-ghost use Rattle.std.specs.List.{slice_get};
+ghost use Rattle.std.specs.Prelude.{◌≡◌, ℕ, suc, ◌≤◌, ◌<◌, true, false, not, List, length, slice_index_or, Some as some, IfOk, OnOk};
+ghost use Rattle.std.specs.List.{slice_get, position};
 ghost use Rattle.meaning.specs.Intervals.{Setting};
 ghost use Rattle.meaning.specs.Order.{Tidy, Later};
 ghost use Rattle.meaning.specs.Work.{Work, Outcome, goes};
@@ -45,7 +45,25 @@ pub(crate) trait Visits<T> {
     ghost stays: { (w u : Work) → Later w u → (i : ℕ) (t : T) → slice_get (items w) i ≡ some t → slice_get (items u) i ≡ some t };
 }
 
-// The visit to the item at a place. It is left out where the place is marked, since it would change nothing.
+// The first place that is not marked, if there is one.
+fn first_unmarked(marks: &[bool]) -> Option<usize>
+    ensures { result ≡ position not marks.now }
+{
+    marks.iter().position(|marked| !marked)
+}
+
+// The first place from this one on that is not marked, or the end of the marks.
+fn next_place(marks: &[bool], place: usize) -> usize
+    requires { place ≤ length marks.now }
+    ensures further { place ≤ result }
+    ensures inside { result ≤ length marks.now }
+    ensures marked { (i : ℕ) → place ≤ i → i < result → slice_index_or marks.now i false ≡ true }
+{
+    let rest = &marks[place..];
+    place + first_unmarked(rest).unwrap_or(rest.len())
+}
+
+// The visit to the item at a place, which is marked where the visit is done.
 fn visit_at<T: Copy, P: Visits<T>>(
     pass: &P,
     board: &mut Board,
@@ -62,9 +80,6 @@ fn visit_at<T: Copy, P: Visits<T>>(
     ensures marked { OnOk result (MarkedBy P.items (P.visited pass.now) (held board.new) marks.new) }
     ensures leaves { OnOk result (Leaves (P.within pass.now) (held board.old) (held board.new)) }
 {
-    if marks[place] {
-        return Ok(false);
-    }
     let visit = pass.visit(board, memo, item)?;
     if visit.done {
         marks[place] = true;
@@ -72,7 +87,7 @@ fn visit_at<T: Copy, P: Visits<T>>(
     Ok(visit.changed)
 }
 
-// Visits to the items from first to last, to those that are added meanwhile too.
+// Visits to the items from first to last, to those that are added meanwhile too. Where a place is marked the visit is left out, since it would change nothing.
 pub(crate) fn visit_all<T: Copy, P: Visits<T>>(
     pass: &P,
     board: &mut Board,
@@ -88,10 +103,10 @@ pub(crate) fn visit_all<T: Copy, P: Visits<T>>(
 {
     let mut changed = false;
     // No `for` over the places: the list may grow, and only the list itself says that no item is left.
-    let mut place = 0;
+    let mut place = next_place(marks, 0);
     while let Some(item) = pass.item(board, place) {
         changed |= visit_at(pass, board, memo, marks, place, item)?;
-        place += 1;
+        place = next_place(marks, place + 1);
     }
     Ok(changed)
 }
