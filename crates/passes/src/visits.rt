@@ -33,7 +33,7 @@ pub(crate) trait Visits<T> {
         ensures found { result ≡ slice_get (items (held board.now)) place }
         ensures few { length (items (held board.now)) ≤ most };
 
-    // The visit to an item of the list.
+    // The visit to an item of the list. Once one is done, others in this state change nothing.
     fn visit(&self, board: &mut Board, memo: &mut Memo, item: T) -> Result<Visited, Stop>
         requires tidy { (S : Setting) × within self.now S × Tidy S (held board.old) }
         requires there { (i : ℕ) × (slice_get (items (held board.old)) i ≡ some item) }
