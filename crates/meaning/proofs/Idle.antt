@@ -1,5 +1,5 @@
--- A duty, or a span, whose visit has changed something is visited in vain for the rest of the state.
-use Rattle.std.proofs.Common.{◌≡◌, ℕ, ◌<◌, true, false, ◌⊎◌, Some, None, Option, sym, refl, ap, ◌∙◌, subst, inl, inr, arith}
+-- A duty whose visit waits for nothing, and a span whose visit has changed something, are visited in vain for the rest of the state.
+use Rattle.std.proofs.Common.{◌≡◌, ℕ, ◌<◌, Bool, true, false, ◌⊎◌, Some, None, Option, sym, refl, ap, ◌∙◌, subst, inl, inr, arith}
 use Rattle.value.specs.declared.parts.End.{End}
 use Rattle.value.specs.declared.parts.End.TheVariants.{Unknown, On, Last}
 use Rattle.meaning.specs.declared.parts.Duty.{Duty}
@@ -10,10 +10,11 @@ use Rattle.meaning.specs.Work.{Work, Outcome, stops, goes, also, and_then}
 use Rattle.meaning.specs.Effects.{put, add}
 use Rattle.meaning.specs.Rules.{visit, take_last, hand_on, visit_opened, visit_span}
 use Rattle.meaning.specs.Order.{◌∈◌, Later}
+use Rattle.meaning.specs.Waiting.{waits}
 use Rattle.meaning.proofs.Kept.{OfWork, kept_hand}
 use Rattle.meaning.proofs.Later.{later_refl, later_duty, later_kept, end_stays}
 use Rattle.meaning.proofs.Spent.{Spent, put-again, add-again, then_again, rule-again}
-use Rattle.meaning.proofs.Spending.{spent_later, add_does, put_does, of_more, of_both, of_then, OnChange, changed_so, Lasting, rule_spends}
+use Rattle.meaning.proofs.Spending.{spent_later, add_does, put_does, of_more, of_both, of_then, rule_spends}
 
 -- a span that can have no further effect: it is on and has told so, or it is last and has added what follows it
 abbrev SpanSpent : Work → ℕ → Option Opening → Type 0
@@ -41,6 +42,17 @@ span_later : (w u : Work) (s : ℕ) (q : Option Opening) → Later w u → Insid
 span_later w u s None h l p = tt
 span_later w u s (Some g) h l (inl p) = inl (end_stays s On h l.0 p.0 tt, end_stays g.follower.span On h l.1 p.1 tt)
 span_later w u s (Some g) h l (inr p) = inr (end_stays s Last h l.0 p.0 tt, later_duty h p.1)
+
+-- an outcome that has changed something says P
+abbrev OnChange : (Work → Type 0) → Outcome → Type 0
+OnChange P (stops s) = Unit {0}
+OnChange P (goes u true) = P u
+OnChange P (goes u false) = Unit {0}
+
+changed_so : (P : Work → Type 0) (o : Outcome) → OfWork P o → OnChange P o
+changed_so P (stops s) h = tt
+changed_so P (goes u true) h = h
+changed_so P (goes u false) h = tt
 
 also_change : (P : Work → Type 0) (o : Outcome) → OnChange P o → OnChange P (also false o)
 also_change P (stops s) h = tt
@@ -74,13 +86,13 @@ opened_change S w s g Last l =
     (of_both (Later w) (λ u. u.ends s ≡ Last) (put g.by Last s w) ((later_kept S w).puts g.by Last s w (later_refl w)) (put_does g.by Last s w tt)))
     (λ u h. hand_last S u s g h.1 h.0) (λ u v h n q. q) (λ u. kept_hand S (Later u) (later_kept S u) (u.ends s) g u (later_refl u)))
 
--- a visit to a duty that has changed something changes nothing more in this state
-pub visit-idle : (S : Setting) (k : ℕ) (d : Duty) (w u : Work) → d.span < w.next → (Lasting (statement_at S d.statement) → ⊥) → visit S k d w ≡ goes u true → Later w u → (v : Work) → Later u v → visit S k d v ≡ goes v false
-visit-idle S k d w u l n e h v m =
-    let p : Spent S k d u (statement_at S d.statement) d.number = subst (OnChange (λ z. Spent S k d z (statement_at S d.statement) d.number)) e (rule_spends S k d w l (statement_at S d.statement) d.number n) in
+-- after a visit that waits for nothing, a visit to the duty changes nothing more in this state
+pub visit-idle : (S : Setting) (k : ℕ) (d : Duty) (w u : Work) (c : Bool) → d.span < w.next → waits S d w ≡ false → visit S k d w ≡ goes u c → Later w u → (v : Work) → Later u v → visit S k d v ≡ goes v false
+visit-idle S k d w u c l n e h v m =
+    let p : Spent S k d u (statement_at S d.statement) d.number = subst (OfWork (λ z. Spent S k d z (statement_at S d.statement) d.number)) e (rule_spends S k d w l (statement_at S d.statement) d.number n) in
     rule-again S k d v (statement_at S d.statement) d.number (spent_later S k d u v m (omega (arith, l, h.serials)) (statement_at S d.statement) d.number p)
 
--- nor does a visit to a span
+-- nor does a visit to a span, after one that has changed something
 pub span_idle : (S : Setting) (t : Span) (w u : Work) → Inside w.next t.serial t.opening → visit_span t w ≡ goes u true → Later w u → (v : Work) → Later u v → visit_span t v ≡ goes v false
 span_idle S t w u l e h v m = by t.opening l e
   where

@@ -41,7 +41,7 @@ module _ (S : Setting) (P : Work → Type 0) (K : Kept S P) where
   kept_once None f w h g = h
   kept_once (Some v) f w h g = g v
 
-  kept_when : (c : End) (f : Work → Outcome) (w : Work) → P w → OfWork P (f w) → OfWork P (when_on c f w)
+  pub kept_when : (c : End) (f : Work → Outcome) (w : Work) → P w → OfWork P (f w) → OfWork P (when_on c f w)
   kept_when Unknown f w h g = h
   kept_when On f w h g = g
   kept_when Last f w h g = h

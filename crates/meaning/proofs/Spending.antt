@@ -1,6 +1,6 @@
--- What is spent stays spent, and a visit that changes something spends its duty.
-use Rattle.std.proofs.Common.{◌≡◌, ℕ, zero, suc, ◌<◌, Bool, true, false, cond, ◌&&◌, ltb, ◌≢◌, length, ℤ, pos, negsuc, Some, None, Option, sym, refl, ap, ◌∙◌, subst, arith}
-use Rattle.std.proofs.lemmas.Bool.{cond_both}
+-- What is spent stays spent, and a visit that waits for nothing spends its duty.
+use Rattle.std.proofs.Common.{◌≡◌, ℕ, zero, suc, ◌<◌, Bool, true, false, cond, not, ◌&&◌, ltb, ◌≢◌, length, ℤ, pos, negsuc, Some, None, Option, is_none, sym, refl, ap, ◌∙◌, subst, arith}
+use Rattle.std.proofs.lemmas.Bool.{cond_both, true≢false}
 use Rattle.sheet.specs.declared.parts.Statement.{Statement}
 use Rattle.sheet.specs.declared.parts.Statement.TheVariants.{True, False, Empty, More, Is, And, If, Next, Always, Halt, Len, Gets, Chop, For, While, Request}
 use Rattle.value.specs.declared.parts.End.{End}
@@ -13,11 +13,13 @@ use Rattle.meaning.specs.Intervals.{Setting, fits}
 use Rattle.meaning.specs.Work.{Work, Outcome, stops, goes, unchanged, changed, also, and_then, plain, numbered, has_duty, has_opened}
 use Rattle.meaning.specs.Effects.{most_duties, most_spans, with_value, with_duty, with_later, with_span, if_room, give_by, give, put_by, put, add, carry, open_span}
 use Rattle.meaning.specs.Rules.{known_for, once_known, when_on, chop_opening, for_opening, while_opening, halt_rule, len_rule, gets_rule, for_rule, while_rule, rule}
+use Rattle.meaning.specs.Runs.{is_ended}
 use Rattle.meaning.specs.Order.{◌∈◌, IsEnded, Later}
-use Rattle.meaning.proofs.Lists.{∈_end, set_same}
-use Rattle.meaning.proofs.Tests.{same_true, has_in, Stands, has_opened_says, truth_yes, truth_no, zero_or_not}
+use Rattle.meaning.specs.Waiting.{till_on, rule_waits}
+use Rattle.meaning.proofs.Lists.{none_some, ∈_end, set_same}
+use Rattle.meaning.proofs.Tests.{same_true, has_in, Stands, has_opened_says, on_last, truth_yes, truth_no, zero_or_not}
 use Rattle.meaning.proofs.Rest.{LenRest, Shows}
-use Rattle.meaning.proofs.Kept.{OfWork, kept_then, kept_truth, kept_on, kept_len}
+use Rattle.meaning.proofs.Kept.{OfWork, kept_then, kept_when, kept_truth, kept_on, kept_len}
 use Rattle.meaning.proofs.Later.{later_refl, later_duty, later_span, later_kept, end_stays, shows_later}
 use Rattle.meaning.proofs.Spent.{ForSpent, HaltSpent, WhileSpent, Spent}
 
@@ -54,7 +56,9 @@ module _ (S : Setting) (k : ℕ) (d : Duty) (w u : Work) (h : Later w u) (l : d.
   spent_later (And a b) o p = (later_duty h p.0, later_duty h p.1)
   spent_later (If e a b) o p = (p.0, shows_later S d w u e p.0 h l p.1, later_duty h p.2)
   spent_later (Next a) o p = both_stay p
-  spent_later (Always a) o p = p
+  spent_later (Always a) o p =
+      let e : u.ends d.span ≡ w.ends d.span = h.ends d.span l p.1.0 in
+      (later_duty h p.0, (subst IsEnded (sym e) p.1.0, λ n. h.carried d (p.1.1 (sym e ∙ n))))
   spent_later (Halt e) o p = (p.0, shows_later S d w u e p.0 h l p.1, ((λ n. last_stays (p.2.0 n)), (λ z. both_stay (p.2.1 z))))
   spent_later (Len e) None p = (p.0, shows_later S d w u e p.0 h l p.1, len_stays p.0 p.2)
   spent_later (Len e) (Some c) p = len_stays c p
@@ -64,7 +68,7 @@ module _ (S : Setting) (k : ℕ) (d : Duty) (w u : Work) (h : Later w u) (l : d.
   spent_later (For e a) None p = (p.0, shows_later S d w u e p.0 h l p.1, later_duty h p.2)
   spent_later (For e a) (Some c) p = for_stays a c p
   spent_later (While e a) o p = (p.0, shows_later S d w u e p.0 h l p.1, ((λ n. stands_later h (p.2.0 n)), (λ z. last_stays (p.2.1 z))))
-  spent_later (Request x) o p = (p.0, p.1, h.knowns x p.0 p.2)
+  spent_later (Request x) o p = λ v e. h.knowns x v (p v e)
 
 -- after it is done, a thing is so
 pub add_does : (d : Duty) (w : Work) → OfWork (λ u. d ∈ u.duties) (add d w)
@@ -133,21 +137,16 @@ pub of_then : (P Q R : Work → Type 0) (o : Outcome) (f : Work → Outcome) →
 of_then P Q R (stops s) f h g r k = tt
 of_then P Q R (goes u c) f h g r k = of_also R c (f u) (of_more (λ v. Later u v × Q v) R (f u) (λ v q. r u v h q.0 q.1) (of_both (Later u) Q (f u) (k u) (g u h)))
 
--- an outcome that has changed something says P
-abbrev pub OnChange : (Work → Type 0) → Outcome → Type 0
-OnChange P (stops s) = Unit {0}
-OnChange P (goes u true) = P u
-OnChange P (goes u false) = Unit {0}
+-- an end that is known, by its test
+ended_says : (c : End) → not (is_ended c) ≡ false → IsEnded c
+ended_says Unknown n = true≢false n
+ended_says On n = tt
+ended_says Last n = tt
 
-pub changed_so : (P : Work → Type 0) (o : Outcome) → OfWork P o → OnChange P o
-changed_so P (stops s) h = tt
-changed_so P (goes u true) h = h
-changed_so P (goes u false) h = tt
-
--- a visit that waits for a number changes nothing without it
-once_change : (P : Work → Type 0) (q : Option ℤ) (f : ℤ → Work → Outcome) (w : Work) → ((v : ℤ) → q ≡ Some v → OfWork P (f v w)) → OnChange P (once_known q f w)
-once_change P None f w h = tt
-once_change P (Some v) f w h = changed_so P (f v w) (h v refl)
+-- a thing that is done once a number is known, where it is
+once_does : (P : Work → Type 0) (q : Option ℤ) (f : ℤ → Work → Outcome) (w : Work) → is_none q ≡ false → ((v : ℤ) → q ≡ Some v → OfWork P (f v w)) → OfWork P (once_known q f w)
+once_does P None f w n h = absurd (true≢false n)
+once_does P (Some v) f w n h = h v refl
 
 of_truth : (P : Work → Type 0) (v : ℤ) (a b : Outcome) → (v ≢ pos 0 → OfWork P a) → (v ≡ pos 0 → OfWork P b) → OfWork P (cond (truth v) a b)
 of_truth P v a b h k = by (zero_or_not v)
@@ -155,25 +154,6 @@ of_truth P v a b h k = by (zero_or_not v)
     by : Dec (v ≡ pos 0) → OfWork P (cond (truth v) a b)
     by (yes z) = subst (OfWork P) (sym (truth_no v a b z)) (k z)
     by (no z) = subst (OfWork P) (sym (truth_yes v a b z)) (h z)
-
--- an `always`
-abbrev pub Lasting : Statement → Type 0
-Lasting True = ⊥
-Lasting False = ⊥
-Lasting Empty = ⊥
-Lasting More = ⊥
-Lasting (Is x e) = ⊥
-Lasting (And p q) = ⊥
-Lasting (If e p q) = ⊥
-Lasting (Next p) = ⊥
-Lasting (Always p) = Unit {0}
-Lasting (Halt e) = ⊥
-Lasting (Len e) = ⊥
-Lasting (Gets x e) = ⊥
-Lasting (Chop p q) = ⊥
-Lasting (For e p) = ⊥
-Lasting (While e p) = ⊥
-Lasting (Request x) = ⊥
 
 module _ (S : Setting) (k : ℕ) (d : Duty) (w : Work) (l : d.span < w.next) where
   -- a thing that is done with a number that is known
@@ -214,51 +194,69 @@ module _ (S : Setting) (k : ℕ) (d : Duty) (w : Work) (l : d.span < w.next) whe
       of_then (λ u. numbered d.statement v d.span ∈ u.later) (λ u. d ∈ u.later) (λ u. (numbered d.statement v d.span ∈ u.later) × (d ∈ u.later)) (carry (numbered d.statement v d.span) w) (carry d)
       (carry_does (numbered d.statement v d.span) w) (λ u h. carry_does d u) (λ u z h n q. (n.carried _ h, q)) (λ u. (later_kept S u).carries d u (later_refl u))
 
-  gets_change : (x e : ℕ) (c : End) → w.ends d.span ≡ c → OnChange (λ u. Spent S k d u (Gets x e) None) (when_on c (once_known (known_for S w d e) (gets_rule d)) w)
-  gets_change x e Unknown n = tt
-  gets_change x e On n =
-      once_change (λ u. Spent S k d u (Gets x e) None) (known_for S w d e) (gets_rule d) w
+  gets_spends : (x e : ℕ) (c : End) → w.ends d.span ≡ c → till_on c (is_none (known_for S w d e)) ≡ false → OfWork (λ u. Spent S k d u (Gets x e) None) (when_on c (once_known (known_for S w d e) (gets_rule d)) w)
+  gets_spends x e Unknown n m = absurd (true≢false m)
+  gets_spends x e On n m =
+      once_does (λ u. Spent S k d u (Gets x e) None) (known_for S w d e) (gets_rule d) w m
       (λ v s. of_more (λ u. Later w u × ((numbered d.statement v d.span ∈ u.later) × (d ∈ u.later))) (λ u. Spent S k d u (Gets x e) None) (gets_rule d v w)
       (λ u r. (end_stays d.span On r.0 l n tt, (v, shows_later S d w u e v r.0 l s, r.1.0, r.1.1)))
       (of_both (Later w) (λ u. (numbered d.statement v d.span ∈ u.later) × (d ∈ u.later)) (gets_rule d v w)
       (kept_then S (Later w) (later_kept S w) (carry (numbered d.statement v d.span) w) (carry d) ((later_kept S w).carries (numbered d.statement v d.span) w (later_refl w)) ((later_kept S w).carries d)) (gets_does v)))
-  gets_change x e Last n = tt
+  gets_spends x e Last n m = absurd (true≢false m)
 
-  -- a visit that changes something spends its duty, unless that is an `always`
-  pub rule_spends : (st : Statement) (o : Option ℤ) → (Lasting st → ⊥) → OnChange (λ u. Spent S k d u st o) (rule S k st o d w)
+  -- where the end of a duty's span is known, the duty is carried if the span is on
+  carried_if_on : (u : Work) (c : End) → d.span < u.next → u.ends d.span ≡ c → IsEnded c → OfWork (λ v. IsEnded (v.ends d.span) × (v.ends d.span ≡ On → d ∈ v.later)) (when_on c (carry d) u)
+  carried_if_on u Unknown m e i = absurd i
+  carried_if_on u On m e i =
+      of_more (λ v. Later u v × (d ∈ v.later)) (λ v. IsEnded (v.ends d.span) × (v.ends d.span ≡ On → d ∈ v.later)) (carry d u) (λ v r. (subst IsEnded (sym (end_stays d.span On r.0 m e tt)) tt, λ _. r.1))
+      (of_both (Later u) (λ v. d ∈ v.later) (carry d u) ((later_kept S u).carries d u (later_refl u)) (carry_does d u))
+  carried_if_on u Last m e i = (subst IsEnded (sym e) tt, λ n. absurd (on_last (sym n ∙ e)))
+
+  -- after a thing is done, what is known of the end is still known, and the span is still older than the next
+  still_ended : (P : Work → Type 0) (o : Outcome) → IsEnded (w.ends d.span) → OfWork (Later w) o → OfWork P o → OfWork (λ u. P u × (IsEnded (u.ends d.span) × (d.span < u.next))) o
+  still_ended P o i h p = of_more (λ u. Later w u × P u) (λ u. P u × (IsEnded (u.ends d.span) × (d.span < u.next))) o (λ u r. (r.1, (subst IsEnded (sym (r.0.ends d.span l i)) i, omega (arith, l, r.0.serials)))) (of_both (Later w) P o h p)
+
+  -- a visit that waits for nothing spends its duty
+  pub rule_spends : (st : Statement) (o : Option ℤ) → rule_waits S st o d w ≡ false → OfWork (λ u. Spent S k d u st o) (rule S k st o d w)
   rule_spends True o n = tt
   rule_spends False o n = tt
-  rule_spends Empty o n = changed_so _ (put d.statement Last d.span w) (put_does d.statement Last d.span w tt)
-  rule_spends More o n = changed_so _ (put d.statement On d.span w) (put_does d.statement On d.span w tt)
+  rule_spends Empty o n = put_does d.statement Last d.span w tt
+  rule_spends More o n = put_does d.statement On d.span w tt
   rule_spends (Is x e) o n =
-      once_change _ (known_for S w d e) (give S d.statement x) w
+      once_does _ (known_for S w d e) (give S d.statement x) w n
       (λ v s. with_number e v (λ u. u.known x ≡ Some v) (λ u. Spent S k d u (Is x e) o) (give S d.statement x v w) s ((later_kept S w).gives d.statement x v w (later_refl w)) (give_does S d.statement x v w) (λ u t q. (v, t, q)))
   rule_spends (And p q) o n =
-      changed_so _ (and_then (add (plain p d.span) w) (add (plain q d.span)))
-      (of_then (λ u. plain p d.span ∈ u.duties) (λ u. plain q d.span ∈ u.duties) (λ u. Spent S k d u (And p q) o) (add (plain p d.span) w) (add (plain q d.span))
-      (add_does (plain p d.span) w) (λ u h. add_does (plain q d.span) u) (λ u v h m r. (later_duty m h, r)) (λ u. (later_kept S u).adds (plain q d.span) u (later_refl u)))
+      of_then (λ u. plain p d.span ∈ u.duties) (λ u. plain q d.span ∈ u.duties) (λ u. Spent S k d u (And p q) o) (add (plain p d.span) w) (add (plain q d.span))
+      (add_does (plain p d.span) w) (λ u h. add_does (plain q d.span) u) (λ u v h m r. (later_duty m h, r)) (λ u. (later_kept S u).adds (plain q d.span) u (later_refl u))
   rule_spends (If e p q) o n =
-      once_change _ (known_for S w d e) (λ v. add (plain (cond (truth v) p q) d.span)) w
+      once_does _ (known_for S w d e) (λ v. add (plain (cond (truth v) p q) d.span)) w n
       (λ v s. let c : Duty = plain (cond (truth v) p q) d.span in with_number e v (λ u. c ∈ u.duties) (λ u. Spent S k d u (If e p q) o) (add c w) s ((later_kept S w).adds c w (later_refl w)) (add_does c w) (λ u t r. (v, t, r)))
-  rule_spends (Next p) o n = changed_so _ (and_then (put d.statement On d.span w) (carry (plain p d.span))) (on_does (plain p d.span))
-  rule_spends (Always p) o n = absurd (n tt)
+  rule_spends (Next p) o n = on_does (plain p d.span)
+  rule_spends (Always p) o n =
+      of_then (λ u. (plain p d.span ∈ u.duties) × (IsEnded (u.ends d.span) × (d.span < u.next))) (λ u. IsEnded (u.ends d.span) × (u.ends d.span ≡ On → d ∈ u.later)) (λ u. Spent S k d u (Always p) o)
+      (add (plain p d.span) w) (λ u. when_on (u.ends d.span) (carry d) u)
+      (still_ended (λ u. plain p d.span ∈ u.duties) (add (plain p d.span) w) (ended_says (w.ends d.span) n) ((later_kept S w).adds (plain p d.span) w (later_refl w)) (add_does (plain p d.span) w))
+      (λ u h. carried_if_on u (u.ends d.span) h.1.1 refl h.1.0) (λ u v h m r. (later_duty m h.0, r)) (λ u. kept_when S (Later u) (later_kept S u) (u.ends d.span) (carry d) u (later_refl u) ((later_kept S u).carries d u (later_refl u)))
   rule_spends (Halt e) o n =
-      once_change _ (known_for S w d e) (halt_rule d) w
+      once_does _ (known_for S w d e) (halt_rule d) w n
       (λ v s. with_number e v (λ u. HaltSpent d u v) (λ u. Spent S k d u (Halt e) o) (halt_rule d v w) s
       (kept_truth S (Later w) (later_kept S w) (truth v) (put d.statement Last d.span w) (and_then (put d.statement On d.span w) (carry d)) ((later_kept S w).puts d.statement Last d.span w (later_refl w)) (kept_on S (Later w) (later_kept S w) d.statement d.span d w (later_refl w))) (halt_does v) (λ u t r. (v, t, r)))
   rule_spends (Len e) None n =
-      once_change _ (known_for S w d e) (len_rule d) w (λ v s. with_number e v (λ u. LenRest d u v) (λ u. Spent S k d u (Len e) None) (len_rule d v w) s (kept_len S (Later w) (later_kept S w) d v w (later_refl w)) (len_does v) (λ u t r. (v, t, r)))
-  rule_spends (Len e) (Some c) n = changed_so _ (len_rule d c w) (len_does c)
-  rule_spends (Gets x e) None n = gets_change x e (w.ends d.span) refl
-  rule_spends (Gets x e) (Some v) n = changed_so _ (give S d.statement x v w) (give_does S d.statement x v w)
-  rule_spends (Chop p q) o n = changed_so _ (open_span (chop_opening d p q) w) (open_does (chop_opening d p q) w)
+      once_does _ (known_for S w d e) (len_rule d) w n (λ v s. with_number e v (λ u. LenRest d u v) (λ u. Spent S k d u (Len e) None) (len_rule d v w) s (kept_len S (Later w) (later_kept S w) d v w (later_refl w)) (len_does v) (λ u t r. (v, t, r)))
+  rule_spends (Len e) (Some c) n = len_does c
+  rule_spends (Gets x e) None n = gets_spends x e (w.ends d.span) refl n
+  rule_spends (Gets x e) (Some v) n = give_does S d.statement x v w
+  rule_spends (Chop p q) o n = open_does (chop_opening d p q) w
   rule_spends (For e p) None n =
-      once_change _ (known_for S w d e) (λ c. add (numbered d.statement c d.span)) w
+      once_does _ (known_for S w d e) (λ c. add (numbered d.statement c d.span)) w n
       (λ v s. let c : Duty = numbered d.statement v d.span in with_number e v (λ u. c ∈ u.duties) (λ u. Spent S k d u (For e p) None) (add c w) s ((later_kept S w).adds c w (later_refl w)) (add_does c w) (λ u t r. (v, t, r)))
-  rule_spends (For e p) (Some c) n = changed_so _ (for_rule d p c w) (for_does p c)
+  rule_spends (For e p) (Some c) n = for_does p c
   rule_spends (While e p) o n =
-      once_change _ (known_for S w d e) (while_rule d p) w
+      once_does _ (known_for S w d e) (while_rule d p) w n
       (λ v s. with_number e v (λ u. WhileSpent d u p v) (λ u. Spent S k d u (While e p) o) (while_rule d p v w) s
       (kept_truth S (Later w) (later_kept S w) (truth v) (open_span (while_opening d p) w) (put d.statement Last d.span w) ((later_kept S w).opens (while_opening d p) w (later_refl w)) ((later_kept S w).puts d.statement Last d.span w (later_refl w))) (while_does p v) (λ u t r. (v, t, r)))
-  rule_spends (Request x) o n =
-      once_change _ (S.readings x k) (give S d.statement x) w (λ v s. of_more (λ u. u.known x ≡ Some v) (λ u. Spent S k d u (Request x) o) (give S d.statement x v w) (λ u r. (v, s, r)) (give_does S d.statement x v w))
+  rule_spends (Request x) o n = read (S.readings x k)
+    where
+      read : (q : Option ℤ) → OfWork (λ u. (v : ℤ) → q ≡ Some v → u.known x ≡ Some v) (once_known q (give S d.statement x) w)
+      read None = λ v e. absurd (none_some v e)
+      read (Some a) = of_more (λ u. u.known x ≡ Some a) (λ u. (v : ℤ) → Some a ≡ Some v → u.known x ≡ Some v) (give S d.statement x a w) (λ u r v e. r ∙ e) (give_does S d.statement x a w)

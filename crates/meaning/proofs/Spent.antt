@@ -29,7 +29,7 @@ HaltSpent d w v = (v ≢ pos 0 → w.ends d.span ≡ Last) × (v ≡ pos 0 → (
 abbrev pub WhileSpent : Duty → Work → ℕ → ℤ → Type 0
 WhileSpent d w p v = (v ≢ pos 0 → Stands (while_opening d p) w.spans) × (v ≡ pos 0 → w.ends d.span ≡ Last)
 
--- the visit of a duty has had its whole effect; an `always`, which does one thing now and one later, is not kept account of
+-- the visit of a duty has had its whole effect
 abbrev pub Spent : Setting → ℕ → Duty → Work → Statement → Option ℤ → Type 0
 Spent S k d w True o = Unit {0}
 Spent S k d w False o = ⊥
@@ -39,7 +39,7 @@ Spent S k d w (Is x e) o = (v : ℤ) × Shows S d w e v × (w.known x ≡ Some v
 Spent S k d w (And p q) o = (plain p d.span ∈ w.duties) × (plain q d.span ∈ w.duties)
 Spent S k d w (If e p q) o = (v : ℤ) × Shows S d w e v × (plain (cond (truth v) p q) d.span ∈ w.duties)
 Spent S k d w (Next p) o = (w.ends d.span ≡ On) × (plain p d.span ∈ w.later)
-Spent S k d w (Always p) o = ⊥
+Spent S k d w (Always p) o = (plain p d.span ∈ w.duties) × (IsEnded (w.ends d.span) × (w.ends d.span ≡ On → d ∈ w.later))
 Spent S k d w (Halt e) o = (v : ℤ) × Shows S d w e v × HaltSpent d w v
 Spent S k d w (Len e) None = (v : ℤ) × Shows S d w e v × LenRest d w v
 Spent S k d w (Len e) (Some c) = LenRest d w c
@@ -49,7 +49,7 @@ Spent S k d w (Chop p q) o = Stands (chop_opening d p q) w.spans
 Spent S k d w (For e p) None = (v : ℤ) × Shows S d w e v × (numbered d.statement v d.span ∈ w.duties)
 Spent S k d w (For e p) (Some c) = ForSpent d w p c
 Spent S k d w (While e p) o = (v : ℤ) × Shows S d w e v × WhileSpent d w p v
-Spent S k d w (Request x) o = (v : ℤ) × (S.readings x k ≡ Some v) × (w.known x ≡ Some v)
+Spent S k d w (Request x) o = (v : ℤ) → S.readings x k ≡ Some v → w.known x ≡ Some v
 
 -- to do a thing again changes nothing
 give-again : (S : Setting) (p x : ℕ) (v : ℤ) (w : Work) → w.known x ≡ Some v → give S p x v w ≡ goes w false
@@ -80,8 +80,15 @@ then_again o f w e h = ap (λ z. and_then z f) e ∙ ap (also false) h
 once_again : (q : Option ℤ) (f : ℤ → Work → Outcome) (w : Work) (v : ℤ) → q ≡ Some v → f v w ≡ goes w false → once_known q f w ≡ goes w false
 once_again q f w v e h = ap (λ z. once_known z f w) e ∙ h
 
-when_again : (c : End) (f : Work → Outcome) (w : Work) → c ≡ On → f w ≡ goes w false → when_on c f w ≡ goes w false
-when_again c f w e h = ap (λ z. when_on z f w) e ∙ h
+-- what is done only with a known number, or only where a span is on, changes nothing if it changes nothing there
+once_only : (q : Option ℤ) (f : ℤ → Work → Outcome) (w : Work) → ((v : ℤ) → q ≡ Some v → f v w ≡ goes w false) → once_known q f w ≡ goes w false
+once_only None f w h = refl
+once_only (Some v) f w h = h v refl
+
+on_only : (c : End) (f : Work → Outcome) (w : Work) → (c ≡ On → f w ≡ goes w false) → when_on c f w ≡ goes w false
+on_only Unknown f w h = refl
+on_only On f w h = h refl
+on_only Last f w h = refl
 
 truth_again : (v : ℤ) (a b : Outcome) (w : Work) → (v ≢ pos 0 → a ≡ goes w false) → (v ≡ pos 0 → b ≡ goes w false) → cond (truth v) a b ≡ goes w false
 truth_again v a b w h k = by (zero_or_not v)
@@ -113,15 +120,15 @@ rule-again S k d w (Is x e) o h = once_again (known_for S w d e) (give S d.state
 rule-again S k d w (And p q) o h = then_again (add (plain p d.span) w) (add (plain q d.span)) w (add-again (plain p d.span) w h.0) (add-again (plain q d.span) w h.1)
 rule-again S k d w (If e p q) o h = once_again (known_for S w d e) (λ v. add (plain (cond (truth v) p q) d.span)) w h.0 h.1 (add-again (plain (cond (truth h.0) p q) d.span) w h.2)
 rule-again S k d w (Next p) o h = on_again d.statement d.span (plain p d.span) w h
-rule-again S k d w (Always p) o h = absurd h
+rule-again S k d w (Always p) o h = then_again (add (plain p d.span) w) (λ u. when_on (u.ends d.span) (carry d) u) w (add-again (plain p d.span) w h.0) (on_only (w.ends d.span) (carry d) w (λ e. carry-again d w (h.1.1 e)))
 rule-again S k d w (Halt e) o h =
     once_again (known_for S w d e) (halt_rule d) w h.0 h.1
     (truth_again h.0 (put d.statement Last d.span w) (and_then (put d.statement On d.span w) (carry d)) w (λ n. put-again d.statement Last d.span w (h.2.0 n) tt) (λ z. on_again d.statement d.span d w (h.2.1 z)))
 rule-again S k d w (Len e) None h = once_again (known_for S w d e) (len_rule d) w h.0 h.1 (len_again d h.0 w h.2)
 rule-again S k d w (Len e) (Some c) h = len_again d c w h
 rule-again S k d w (Gets x e) None h =
-    when_again (w.ends d.span) (once_known (known_for S w d e) (gets_rule d)) w h.0
-    (once_again (known_for S w d e) (gets_rule d) w h.1.0 h.1.1
+    on_only (w.ends d.span) (once_known (known_for S w d e) (gets_rule d)) w
+    (λ _. once_again (known_for S w d e) (gets_rule d) w h.1.0 h.1.1
     (then_again (carry (numbered d.statement h.1.0 d.span) w) (carry d) w (carry-again (numbered d.statement h.1.0 d.span) w h.1.2) (carry-again d w h.1.3)))
 rule-again S k d w (Gets x e) (Some v) h = give-again S d.statement x v w h
 rule-again S k d w (Chop p q) o h = open_again (chop_opening d p q) w h
@@ -130,4 +137,4 @@ rule-again S k d w (For e p) (Some c) h = for_again d p c w h
 rule-again S k d w (While e p) o h =
     once_again (known_for S w d e) (while_rule d p) w h.0 h.1
     (truth_again h.0 (open_span (while_opening d p) w) (put d.statement Last d.span w) w (λ n. open_again (while_opening d p) w (h.2.0 n)) (λ z. put-again d.statement Last d.span w (h.2.1 z) tt))
-rule-again S k d w (Request x) o h = once_again (S.readings x k) (give S d.statement x) w h.0 h.1 (give-again S d.statement x h.0 w h.2)
+rule-again S k d w (Request x) o h = once_only (S.readings x k) (give S d.statement x) w (λ v e. give-again S d.statement x v w (h v e))

@@ -1,5 +1,5 @@
 -- What a sheet means, how a state is settled, and the laws that join the two.
--- A reader has to believe these files, in this order, and nothing in proofs/. Order is for the contracts of inner code alone.
+-- A reader has to believe these files, in this order, and nothing in proofs/. Order and Waiting are for the contracts of inner code alone.
 pub mod Intervals
 pub mod Holds
 pub mod Work
@@ -9,3 +9,4 @@ pub mod Passes
 pub mod Runs
 pub mod Laws
 pub mod Order
+pub mod Waiting

@@ -25,6 +25,8 @@ use Rattle.meaning.proofs.Kept.{OfWork, kept_visit}
 use Rattle.meaning.proofs.Later.{later_refl, later_kept}
 use Rattle.board.specs.Answers.{told}
 use Rattle.board.specs.Held.{sheet_of}
+use Rattle.rules.specs.declared.parts.Visited.{Visited}
+use Rattle.rules.specs.Visits.{changed}
 
 -- a sheet keeps the limits
 pub limits_of : (s : Sheet) → Limits (sheet_of s)
@@ -35,8 +37,8 @@ tidy_of : {S : Setting} {w u : Work} {c : Bool} → Moves S w Any (goes u c) →
 tidy_of (moves_on g l t p) = t
 
 -- what an answer of `Ok` says of the work that it leaves
-pub told_ok : (r : Result Bool Stop) (u : Work) (o : Outcome) (P : Type 0) → told r u ≡ o → ((c : Bool) → goes u c ≡ o → P) → OnOk r P
-told_ok (Ok c) u o P e f = f c e
+pub told_ok : (r : Result Visited Stop) (u : Work) (o : Outcome) (P : Type 0) → told (changed r) u ≡ o → ((c : Bool) → goes u c ≡ o → P) → OnOk r P
+told_ok (Ok v) u o P e f = f v.changed e
 told_ok (Err s) u o P e f = tt
 
 -- a slice of a whole list, given back, is the list

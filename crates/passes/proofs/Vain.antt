@@ -1,40 +1,22 @@
 -- After which visits others are in vain.
-use Rattle.std.proofs.Common.{◌≡◌, ℕ, ◌<◌, Bool, true, false, not, Some, None, Option, sym, refl, subst}
+use Rattle.std.proofs.Common.{◌≡◌, ℕ, ◌<◌, Bool, true, false, not, Some, None, Option, Ok, Err, Result, IfOk, sym, refl, ◌∙◌, subst}
 use Rattle.std.specs.List.{slice_get}
 use Rattle.std.proofs.lemmas.Bool.{true≢false}
-use Rattle.sheet.specs.declared.parts.Statement.{Statement}
-use Rattle.sheet.specs.declared.parts.Statement.TheVariants.{True, False, Empty, More, Is, And, If, Next, Always, Halt, Len, Gets, Chop, For, While, Request}
 use Rattle.meaning.specs.declared.parts.Duty.{Duty}
 use Rattle.meaning.specs.declared.parts.Opening.{Opening}
 use Rattle.meaning.specs.declared.parts.Span.{Span}
-use Rattle.meaning.specs.Intervals.{Setting, statement_at}
+use Rattle.meaning.specs.declared.parts.Stop.{Stop}
+use Rattle.meaning.specs.Intervals.{Setting}
 use Rattle.meaning.specs.Work.{Work, goes}
 use Rattle.meaning.specs.Rules.{visit, visit_span}
 use Rattle.meaning.specs.Order.{◌∈◌, Lives, Nested, Tidy, Later}
+use Rattle.meaning.specs.Waiting.{waits}
 use Rattle.meaning.proofs.Lists.{nth_in}
-use Rattle.meaning.proofs.Spending.{Lasting}
 use Rattle.meaning.proofs.Idle.{Inside, visit-idle, span_idle}
-use Rattle.passes.specs.Marked.{lasting}
+use Rattle.board.specs.Answers.{told}
+use Rattle.rules.specs.declared.parts.Visited.{Visited}
+use Rattle.rules.specs.Visits.{changed}
 use Rattle.passes.proofs.Keeping.{visit_later, span_later}
-
--- a statement that is no `always`
-lasting_says : (st : Statement) → lasting st ≡ false → Lasting st → ⊥
-lasting_says True e h = h
-lasting_says False e h = h
-lasting_says Empty e h = h
-lasting_says More e h = h
-lasting_says (Is x y) e h = h
-lasting_says (And p q) e h = h
-lasting_says (If y p q) e h = h
-lasting_says (Next p) e h = h
-lasting_says (Always p) e h = true≢false e
-lasting_says (Halt y) e h = h
-lasting_says (Len y) e h = h
-lasting_says (Gets x y) e h = h
-lasting_says (Chop p q) e h = h
-lasting_says (For y p) e h = h
-lasting_says (While y p) e h = h
-lasting_says (Request x) e h = h
 
 -- what lives is older than the next span
 lives_below : (S : Setting) (w : Work) (s : ℕ) → Tidy S w → Lives w.spans s → s < w.next
@@ -49,14 +31,13 @@ not_says : (b : Bool) → not b ≡ true → b ≡ false
 not_says false e = refl
 not_says true e = absurd (true≢false (sym e))
 
--- a duty is visited in vain once its visit has changed something, unless it is an `always`
-pub duty_vain : (S : Setting) (k i : ℕ) (d : Duty) (w u : Work) → Tidy S w → slice_get w.duties i ≡ Some d → not (lasting (statement_at S d.statement)) ≡ true
-    → goes u true ≡ visit S k d w → (v : Work) → Later u v → visit S k d v ≡ goes v false
-duty_vain S k i d w u t e n h =
-    visit-idle S k d w u (lives_below S w d.span t (t.duty_lives d (nth_in w.duties i d e))) (lasting_says (statement_at S d.statement) (not_says (lasting (statement_at S d.statement)) n)) (sym h)
-    (visit_later S k d w u true h)
+-- a duty is visited in vain after a visit that waits for nothing
+pub duty_vain : (S : Setting) (k i : ℕ) (d : Duty) (w u : Work) (r : Result Visited Stop) → Tidy S w → slice_get w.duties i ≡ Some d → told (changed r) u ≡ visit S k d w → IfOk r (λ a. a.done ≡ not (waits S d w))
+    → IfOk r (λ a. a.done ≡ true → (v : Work) → Later u v → visit S k d v ≡ goes v false)
+duty_vain S k i d w u (Ok a) t e h n = λ m. visit-idle S k d w u a.changed (lives_below S w d.span t (t.duty_lives d (nth_in w.duties i d e))) (not_says (waits S d w) (sym n ∙ m)) (sym h) (visit_later S k d w u a.changed h)
+duty_vain S k i d w u (Err s) t e h n = tt
 
--- and so is a span
+-- and a span after one that changes something
 pub span_vain : (S : Setting) (i : ℕ) (t : Span) (w u : Work) → Tidy S w → slice_get w.spans i ≡ Some t → goes u true ≡ visit_span t w → (v : Work) → Later u v → visit_span t v ≡ goes v false
 span_vain S i t w u y e h =
     let s : t ∈ w.spans = nth_in w.spans i t e in

@@ -1,11 +1,15 @@
 -- The visits to a list, one after another, and the marks on its items.
-use Rattle.std.proofs.Common.{◌≡◌, ℕ, suc, ◌+◌, ◌-◌, ◌<◌, Bool, true, false, ◌||◌, List, set, get_or, Some, None, Option, sym, refl, ap, ◌∙◌, subst, ⊎_elim, get_or-set_other, arith}
-use Rattle.std.specs.List.{slice_get}
-use Rattle.std.proofs.lemmas.Bool.{cases_eq}
+use Rattle.std.proofs.Common.{◌≡◌, ℕ, zero, suc, ◌+◌, ◌-◌, ◌<◌, ◌≤◌, nat_lt, not, length, take, drop, Bool, true, false, ◌||◌, List, set, get_or, Some, None, Option, sym, refl, ap, ◌∙◌, subst, ⊎_elim, get_or-set_other, arith}
+use Rattle.std.proofs.Math.Seq.{take-length}
+use Rattle.std.specs.List.{slice_get, position, position_or_len}
+use Rattle.std.specs.Option.{unwrap_or}
+use Rattle.std.proofs.lemmas.Bool.{cases_eq, cond_both}
+use Rattle.std.proofs.lemmas.List.{get_or-drop, length-drop}
+use Rattle.std.proofs.lemmas.List.Sums.{fails_before_first}
 use Rattle.meaning.specs.declared.parts.Stop.{Stop}
 use Rattle.meaning.specs.Work.{Work, Outcome, stops, goes, also, and_then}
 use Rattle.meaning.specs.Order.{Later}
-use Rattle.meaning.proofs.Later.{later_trans}
+use Rattle.meaning.proofs.Later.{later_refl, later_trans}
 use Rattle.passes.specs.Walks.{visit_one, visit_from, MarkedBy}
 
 -- or, of three
@@ -23,10 +27,32 @@ or_no : (a : Bool) → (a || false) ≡ a
 or_no true = refl
 or_no false = refl
 
+not_no : (b : Bool) → not b ≡ false → b ≡ true
+not_no true e = refl
+not_no false e = sym e
+
+-- up to the first that is not marked, or to the end, all are
+up_to : (l : List Bool) (n : ℕ) → n ≡ unwrap_or (position not l) (length l) → n ≤ position_or_len not l
+up_to l n =
+    cond_both (nat_lt (position_or_len not l) (length l)) (Some (position_or_len not l)) None (λ (q : Option ℕ). n ≡ unwrap_or q (length l) → n ≤ position_or_len not l) (λ t e. omega (arith, e)) (λ t e. grind arith)
+
+-- the places from p on up to the first that is not marked are marked
+pub marked_before : (l : List Bool) (p n : ℕ) (q : Option ℕ) → q ≡ position not (take (length l - p) (drop p l)) → n ≡ unwrap_or q (length (take (length l - p) (drop p l))) → (i : ℕ) → p ≤ i → i < p + n → get_or l i false ≡ true
+marked_before l p n q e f i a b =
+    let r : take (length l - p) (drop p l) ≡ drop p l = ap (λ (z : ℕ). take z (drop p l)) (sym (length-drop p l)) ∙ take-length (drop p l) in
+    let m : n ≤ position_or_len not (drop p l) = up_to (drop p l) n (f ∙ ap (λ (z : Option ℕ). unwrap_or z (length (take (length l - p) (drop p l)))) e ∙ ap (λ (z : List Bool). unwrap_or (position not z) (length z)) r) in
+    let s : p + (i - p) ≡ i = omega (arith, a) in
+    not_no (get_or l i false) (ap (λ (z : ℕ). not (get_or l z false)) (sym s) ∙ ap not (sym (get_or-drop p l (i - p) false)) ∙ fails_before_first not (drop p l) (i - p) false (omega (arith, m, a, b)))
+
 -- a mark at a place that was set stands there, or was there before
 at_set : (l : List Bool) (p i : ℕ) (P : ℕ → Type 0) → (get_or l i false ≡ true → P i) → P p → get_or (set l p true) i false ≡ true → P i
 at_set l p i P h q e =
     ⊎_elim (λ (a : i ≡ p). subst P (sym a) q) (λ (n : i ≡ p → ⊥). h (sym (get_or-set_other l p i true false n) ∙ e)) (cases_eq i p)
+
+-- or nothing, before
+also_no : (o : Outcome) → also false o ≡ o
+also_no (stops s) = refl
+also_no (goes u b) = refl
 
 module _ {T : Type 0} (items : Work → List T) (visited : T → Work → Outcome) where
   -- the visits from place i on, one place further
@@ -40,6 +66,26 @@ module _ {T : Type 0} (items : Work → List T) (visited : T → Work → Outcom
   from_there : (n i : ℕ) (t : T) (w : Work) (x : Outcome) → i < n → slice_get (items w) i ≡ Some t → x ≡ visited t w → visit_from items visited (n - i) i w ≡ and_then x (visit_from items visited (n - (i + 1)) (i + 1))
   from_there n i t w x h e p =
       from_more n i w h ∙ ap (λ (q : Option T). visit_one visited q (visit_from items visited (n - (i + 1)) (i + 1)) w) e ∙ ap (λ (z : Outcome). and_then z (visit_from items visited (n - (i + 1)) (i + 1))) (sym p)
+
+  -- a place that is marked may be passed over
+  from_next_mark : (n i : ℕ) (w : Work) (marks : List Bool) → i < n → MarkedBy items visited w marks → get_or marks i false ≡ true → visit_from items visited (n - i) i w ≡ visit_from items visited (n - (i + 1)) (i + 1) w
+  from_next_mark n i w marks h m e =
+      let r = m i e in from_there n i r.0 w (goes w false) h r.1 (sym (r.2 w (later_refl w))) ∙ also_no (visit_from items visited (n - (i + 1)) (i + 1) w)
+
+  from_marks : (m n i j : ℕ) (w : Work) (marks : List Bool) → j ≡ i + m → j < n → MarkedBy items visited w marks → ((k : ℕ) → i ≤ k → k < j → get_or marks k false ≡ true) → visit_from items visited (n - i) i w ≡ visit_from items visited (n - j) j w
+  from_marks zero n i j w marks e h k f = let p : i ≡ j = omega (arith, e) in ap (λ (z : ℕ). visit_from items visited (n - z) z w) p
+  from_marks (suc m) n i j w marks e h k f =
+      from_next_mark n i w marks (omega (arith, e, h)) k (f i (omega arith) (omega (arith, e))) ∙ from_marks m n (i + 1) j w marks (omega (arith, e)) h k (λ z a b. f z (omega (arith, a)) b)
+
+  -- and so may all up to the next that is not
+  pub from_marked : (n i j : ℕ) (w : Work) (marks : List Bool) (a : Bool) (o : Outcome) → i ≤ j → j < n → MarkedBy items visited w marks → ((k : ℕ) → i ≤ k → k < j → get_or marks k false ≡ true)
+      → also a (visit_from items visited (n - i) i w) ≡ o → also a (visit_from items visited (n - j) j w) ≡ o
+  from_marked n i j w marks a o l h m f q = sym (ap (also a) (from_marks (j - i) n i j w marks (omega (arith, l)) h m f)) ∙ q
+
+  pub from_first : (n j : ℕ) (w : Work) (marks : List Bool) → j < n → MarkedBy items visited w marks → ((k : ℕ) → 0 ≤ k → k < j → get_or marks k false ≡ true) → also false (visit_from items visited (n - j) j w) ≡ visit_from items visited n 0 w
+  from_first n j w marks h m f =
+      let e : n - 0 ≡ n = omega arith in
+      also_no (visit_from items visited (n - j) j w) ∙ sym (from_marks j n 0 j w marks (omega arith) h m f) ∙ ap (λ (z : ℕ). visit_from items visited z 0 w) e
 
   -- what the visits from place i on come to stays, after the one at i
   pub from_next : (n i : ℕ) (t : T) (w u : Work) (a c : Bool) (o : Outcome) → i < n → slice_get (items w) i ≡ Some t → goes u c ≡ visited t w → also a (visit_from items visited (n - i) i w) ≡ o

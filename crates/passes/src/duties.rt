@@ -1,13 +1,12 @@
 // Visits to the duties of a state.
-ghost use Rattle.std.specs.Prelude.{◌≡◌, not, length, OnOk, slice_index_or};
-ghost use Rattle.sheet.specs.declared.parts.Statement.TheVariants.{True as true_so};
+ghost use Rattle.std.specs.Prelude.{◌≡◌, length, OnOk};
 ghost use Rattle.meaning.specs.Order.{Tidy};
 ghost use Rattle.meaning.specs.Passes.{pass_fuel, visit_duties};
 ghost use Rattle.meaning.specs.Rules.{visit};
 ghost use Rattle.board.specs.Answers.{told};
 ghost use Rattle.board.specs.Held.{held};
 ghost use Rattle.passes.specs.Passing.{setting_of};
-ghost use Rattle.passes.specs.Marked.{Marked, lasting};
+ghost use Rattle.passes.specs.Marked.{Marked};
 ghost use Rattle.passes.specs.Walks.{Leaves};
 
 use crate::parts::Pass;
@@ -15,7 +14,7 @@ use crate::visits::{Visits, visit_all};
 use board::Board;
 use feed::Feed;
 use meaning::{Duty, Stop};
-use sheet::Statement;
+use rules::Visited;
 use value::Memo;
 
 // A pass visits this state's duties.
@@ -29,26 +28,13 @@ impl<'a, F: Feed> Visits<Duty> for Pass<'a, F> {
 
     ghost visited = { λ p d. visit (setting_of F.Feed.readings p) p.state d };
 
-    // An `always` does one thing at once and one when its span is on.
-    ghost spent = { λ p d. not (lasting (slice_index_or p.sheet.now.tables.statements.items d.statement true_so)) };
-
     ghost stays = { λ w u l i t e. l.duties i t e };
 
     fn item(&self, board: &Board, place: usize) -> Option<Duty> {
         board.duty(place)
     }
 
-    fn is_spent(&self, item: &Duty) -> bool {
-        !matches!(
-            self.sheet
-                .tables
-                .statements
-                .get(usize::from(item.statement)),
-            Some(Statement::Always(_)),
-        )
-    }
-
-    fn visit(&self, board: &mut Board, memo: &mut Memo, item: Duty) -> Result<bool, Stop> {
+    fn visit(&self, board: &mut Board, memo: &mut Memo, item: Duty) -> Result<Visited, Stop> {
         rules::visit_duty(board, self.sheet, self.feed, memo, self.state, item)
     }
 }

@@ -1,5 +1,5 @@
 // Visits to the spans of a state.
-ghost use Rattle.std.specs.Prelude.{◌≡◌, true, length, OnOk};
+ghost use Rattle.std.specs.Prelude.{◌≡◌, length, OnOk};
 ghost use Rattle.std.specs.Bool.{⊤};
 ghost use Rattle.meaning.specs.Intervals.{Setting};
 ghost use Rattle.meaning.specs.Order.{Tidy};
@@ -15,6 +15,7 @@ use crate::visits::{Visits, visit_all};
 use board::Board;
 use feed::Feed;
 use meaning::{Span, Stop};
+use rules::Visited;
 use value::Memo;
 
 // A pass visits the spans that run.
@@ -28,20 +29,19 @@ impl<'a, F: Feed> Visits<Span> for Pass<'a, F> {
 
     ghost visited = { λ p t. visit_span t };
 
-    ghost spent = { λ p t. true };
-
     ghost stays = { λ w u l i t e. l.spans i t e };
 
     fn item(&self, board: &Board, place: usize) -> Option<Span> {
         board.span(place)
     }
 
-    fn is_spent(&self, _item: &Span) -> bool {
-        true
-    }
-
-    fn visit(&self, board: &mut Board, _memo: &mut Memo, item: Span) -> Result<bool, Stop> {
-        rules::visit_span(board, item)
+    // A visit to a span that changes something is the last that does, in this state.
+    fn visit(&self, board: &mut Board, _memo: &mut Memo, item: Span) -> Result<Visited, Stop> {
+        let changed = rules::visit_span(board, item)?;
+        Ok(Visited {
+            changed,
+            done: changed,
+        })
     }
 }
 

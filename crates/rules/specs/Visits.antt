@@ -1,13 +1,16 @@
--- What a visit to a duty asks of the work before it, and what a statement's rule makes of that work. Assumes nothing.
-use Rattle.std.specs.Prelude.{ℕ, ℤ, Option}
+-- What a visit to a duty asks of the work before it, what a statement's rule makes of that work, and for what it waits there. Assumes nothing.
+use Rattle.std.specs.Prelude.{ℕ, Bool, ℤ, Option, Ok, Err, Result}
 use Rattle.sheet.specs.declared.kept.Sheet.{Sheet}
 use Rattle.sheet.specs.declared.parts.Statement.{Statement}
+use Rattle.meaning.specs.declared.parts.Stop.{Stop}
 use Rattle.meaning.specs.Intervals.{under}
 use Rattle.meaning.specs.Order.{Lives, FitSays}
 use Rattle.meaning.specs.Rules.{rule}
+use Rattle.meaning.specs.Waiting.{rule_waits}
 use Rattle.meaning.specs.Work.{Work, Outcome}
 use Rattle.board.specs.Held.{sheet_of}
 use Rattle.rules.specs.declared.parts.Visit.{Visit}
+use Rattle.rules.specs.declared.parts.Visited.{Visited}
 
 -- every number that is known lies in its range, whatever is read
 abbrev pub Fitted : Sheet → Work → Type 0
@@ -21,3 +24,12 @@ pub record Ready {F : Type 0} (v : Visit F) (w : Work) : Type 0 where
 -- what the rule of the statement t makes of the work w at this visit, where the feed has these readings
 abbrev pub ruled : {F : Type 0} → (F → ℕ → ℕ → Option ℤ) → Visit F → Statement → Work → Outcome
 ruled readings v t w = rule (under (sheet_of v.sheet.now) (readings v.feed.now)) v.state t v.duty.number v.duty w
+
+-- whether this visit waits, by the rule of the statement t
+abbrev pub awaits : {F : Type 0} → (F → ℕ → ℕ → Option ℤ) → Visit F → Statement → Work → Bool
+awaits readings v t w = rule_waits (under (sheet_of v.sheet.now) (readings v.feed.now)) t v.duty.number v.duty w
+
+-- the answer of a visit, as an answer whether anything has changed
+abbrev pub changed : Result Visited Stop → Result Bool Stop
+changed (Ok v) = Ok v.changed
+changed (Err s) = Err s

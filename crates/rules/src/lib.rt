@@ -8,5 +8,6 @@ mod spans;
 mod visiting;
 mod waiting;
 
+pub use crate::parts::Visited;
 pub use crate::spans::visit_span;
 pub use crate::visiting::visit_duty;

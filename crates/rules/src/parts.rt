@@ -1,4 +1,4 @@
-// What a visit to a duty works with.
+// What a visit to a duty works with, and what it comes to.
 use meaning::Duty;
 use sheet::Sheet;
 
@@ -12,3 +12,18 @@ pub(crate) struct Visit<'a, F> {
     pub(crate) state: u32,
     pub(crate) duty: Duty,
 }
+
+// What a visit has come to.
+#[derive(Clone, Copy)]
+pub struct Visited {
+    // whether it has changed something
+    pub changed: bool,
+    // whether it waited for nothing: then another visit in this state would change nothing
+    pub done: bool,
+}
+
+// A visit that waits, and has changed nothing.
+pub(crate) const WAITING: Visited = Visited {
+    changed: false,
+    done: false,
+};

@@ -1,5 +1,5 @@
-// The rules that wait for no number.
-ghost use Rattle.std.specs.Prelude.{◌≡◌};
+// The rules that wait for no number, and answers that wait for nothing.
+ghost use Rattle.std.specs.Prelude.{◌≡◌, true, not, IfOk};
 ghost use Rattle.value.specs.declared.parts.End.TheVariants.{On as on_end};
 ghost use Rattle.sheet.specs.declared.parts.Statement.TheVariants.{And as and_so, Always as always_so};
 ghost use Rattle.meaning.specs.Work.{and_then, plain, numbered};
@@ -7,9 +7,9 @@ ghost use Rattle.meaning.specs.Effects.{put as putting, carry as carrying};
 ghost use Rattle.meaning.specs.Rules.{when_on, halt_rule, len_rule, gets_rule};
 ghost use Rattle.board.specs.Answers.{told};
 ghost use Rattle.board.specs.Held.{held};
-ghost use Rattle.rules.specs.Visits.{Ready, ruled};
+ghost use Rattle.rules.specs.Visits.{Ready, ruled, awaits, changed};
 
-use crate::parts::Visit;
+use crate::parts::{Visit, Visited};
 use board::{Board, after};
 use feed::Feed;
 use meaning::{Duty, Stop};
@@ -37,6 +37,17 @@ pub(crate) fn with_number(duty: Duty, number: i64) -> Duty
     }
 }
 
+// The answer of a visit that waits for nothing.
+pub(crate) fn done(answer: Result<bool, Stop>) -> Result<Visited, Stop>
+    ensures visited { changed result ≡ answer }
+    ensures done { IfOk result (λ v. v.done ≡ true) }
+{
+    answer.map(|changed| Visited {
+        changed,
+        done: true,
+    })
+}
+
 impl<'a, F: Feed> Visit<'a, F> {
     // The duty's span is on, and another duty is carried.
     pub(crate) fn on_and_carry(&self, board: &mut Board, next: Duty) -> Result<bool, Stop>
@@ -59,24 +70,30 @@ impl<'a, F: Feed> Visit<'a, F> {
         )
     }
 
-    // The duty is carried where its span is on.
-    fn carry_if_on(&self, board: &mut Board) -> Result<bool, Stop>
-        ensures { told result (held board.new) ≡ when_on ((held board.old).ends self.now.duty.span) (carrying self.now.duty) (held board.old) }
+    // The duty is carried where its span is on, by the end of that span.
+    fn carry_if_on(&self, board: &mut Board, end: End) -> Result<bool, Stop>
+        ensures { told result (held board.new) ≡ when_on end (carrying self.now.duty) (held board.old) }
     {
-        match board.end_of(self.duty.span) {
+        match end {
             End::On => board.carry(self.duty),
             _ => Ok(false),
         }
     }
 
-    // `always`: its part is added, and it is carried where its span is on.
-    pub(crate) fn always_rule(&self, board: &mut Board, p: u16) -> Result<bool, Stop>
-        ensures { told result (held board.new) ≡ ruled F.Feed.readings self.now (always_so p) (held board.old) }
+    // `always`: its part is added, and it is carried where its span is on. It waits for the end of that span, when its part is added already.
+    pub(crate) fn always_rule(&self, board: &mut Board, p: u16) -> Result<Visited, Stop>
+        ensures visited { told (changed result) (held board.new) ≡ ruled F.Feed.readings self.now (always_so p) (held board.old) }
+        ensures done { IfOk result (λ v. v.done ≡ not (awaits F.Feed.readings self.now (always_so p) (held board.old))) }
     {
-        after(
+        let end = board.end_of(self.duty.span);
+        let changed = after(
             board.add(plainly(p, self.duty.span))?,
-            self.carry_if_on(board),
-        )
+            self.carry_if_on(board, end),
+        )?;
+        Ok(Visited {
+            changed,
+            done: end != End::Unknown,
+        })
     }
 
     // `halt`, whose test has this number.

@@ -1,16 +1,17 @@
 // A visit to a duty.
-ghost use Rattle.std.specs.Prelude.{◌≡◌, ℕ, true, ℤ, vec_len, Option as Maybe};
+ghost use Rattle.std.specs.Prelude.{◌≡◌, ℕ, true, not, ℤ, vec_len, Option as Maybe, IfOk};
 ghost use Rattle.std.specs.List.{slice_get};
 ghost use Rattle.sheet.specs.Limits.{statement_ok};
 ghost use Rattle.meaning.specs.Intervals.{under};
 ghost use Rattle.meaning.specs.Order.{Lives, FitSays};
 ghost use Rattle.meaning.specs.Rules.{visit};
+ghost use Rattle.meaning.specs.Waiting.{waits};
 ghost use Rattle.board.specs.Answers.{told};
 ghost use Rattle.board.specs.Held.{held, sheet_of};
-ghost use Rattle.rules.specs.Visits.{Ready, ruled};
+ghost use Rattle.rules.specs.Visits.{Ready, ruled, awaits, changed};
 
-use crate::parts::Visit;
-use crate::plain::plainly;
+use crate::parts::{Visit, Visited};
+use crate::plain::{done, plainly};
 use board::Board;
 use feed::Feed;
 use meaning::{Duty, Stop};
@@ -25,29 +26,30 @@ impl<'a, F: Feed> Visit<'a, F> {
         board: &mut Board,
         memo: &mut Memo,
         statement: Statement,
-    ) -> Result<bool, Stop>
+    ) -> Result<Visited, Stop>
         requires proper { statement_ok (vec_len self.now.sheet.now.tables.variables) (vec_len self.now.sheet.now.tables.expressions) self.now.duty.statement statement ≡ true }
         requires ready { Ready self.now (held board.old) }
-        ensures { told result (held board.new) ≡ ruled F.Feed.readings self.now statement (held board.old) }
+        ensures visited { told (changed result) (held board.new) ≡ ruled F.Feed.readings self.now statement (held board.old) }
+        ensures done { IfOk result (λ v. v.done ≡ not (awaits F.Feed.readings self.now statement (held board.old))) }
     {
         let duty = self.duty;
         match statement {
-            Statement::True => Ok(false),
-            Statement::False => Err(Stop::Contradiction(duty.statement)),
-            Statement::Empty => board.put(duty.statement, End::Last, duty.span),
-            Statement::More => board.put(duty.statement, End::On, duty.span),
+            Statement::True => done(Ok(false)),
+            Statement::False => done(Err(Stop::Contradiction(duty.statement))),
+            Statement::Empty => done(board.put(duty.statement, End::Last, duty.span)),
+            Statement::More => done(board.put(duty.statement, End::On, duty.span)),
             Statement::Is(x, e) => self.is_rule(board, memo, x, e),
-            Statement::And(p, q) => self.and_rule(board, p, q),
+            Statement::And(p, q) => done(self.and_rule(board, p, q)),
             Statement::If(e, p, q) => self.if_rule(board, memo, e, p, q),
-            Statement::Next(p) => self.on_and_carry(board, plainly(p, duty.span)),
+            Statement::Next(p) => done(self.on_and_carry(board, plainly(p, duty.span))),
             Statement::Always(p) => self.always_rule(board, p),
             Statement::Halt(e) => self.halt_rule(board, memo, e),
             Statement::Len(e) => self.len_rule(board, memo, e),
             Statement::Gets(x, e) => self.gets_rule(board, memo, x, e),
-            Statement::Chop(p, q) => self.chop_rule(board, p, q),
+            Statement::Chop(p, q) => done(self.chop_rule(board, p, q)),
             Statement::For(e, p) => self.for_rule(board, memo, e, p),
             Statement::While(e, p) => self.while_rule(board, memo, e, p),
-            Statement::Request(x) => self.request_rule(board, x),
+            Statement::Request(x) => done(self.request_rule(board, x)),
         }
     }
 }
@@ -67,13 +69,14 @@ pub fn visit_duty<F: Feed>(
     memo: &mut Memo,
     state: u32,
     duty: Duty,
-) -> Result<bool, Stop>
+) -> Result<Visited, Stop>
     requires lives { Lives (held board.old).spans duty.span }
     requires fitted { (f : ℕ → ℕ → Maybe ℤ) (y : ℕ) → FitSays (under (sheet_of sheet.now) f) y ((held board.old).known y) }
-    ensures { told result (held board.new) ≡ visit (under (sheet_of sheet.now) (F.Feed.readings feed.now)) state duty (held board.old) }
+    ensures visited { told (changed result) (held board.new) ≡ visit (under (sheet_of sheet.now) (F.Feed.readings feed.now)) state duty (held board.old) }
+    ensures done { IfOk result (λ v. v.done ≡ not (waits (under (sheet_of sheet.now) (F.Feed.readings feed.now)) duty (held board.old))) }
 {
     let Some(statement) = statement_of(sheet, duty.statement) else {
-        return Ok(false);
+        return done(Ok(false));
     };
     let visit = Visit {
         sheet,

@@ -1,14 +1,14 @@
 // The rules that wait for a number.
 // Three of them ask that their variable is one of the sheet's: a word for it would be no shorter.
-ghost use Rattle.std.specs.Prelude.{◌≡◌, ◌<◌, vec_len};
+ghost use Rattle.std.specs.Prelude.{◌≡◌, ◌<◌, not, vec_len, IfOk};
 ghost use Rattle.sheet.specs.declared.parts.Statement.TheVariants.{Is as is_so, If as if_so, Halt as halt_so, Len as len_so, Gets as gets_so, For as for_so, While as while_so, Request as request_so};
 ghost use Rattle.value.specs.Values.{known_at};
 ghost use Rattle.board.specs.Answers.{told};
 ghost use Rattle.board.specs.Held.{held};
-ghost use Rattle.rules.specs.Visits.{Fitted, Ready, ruled};
+ghost use Rattle.rules.specs.Visits.{Fitted, Ready, ruled, awaits, changed};
 
-use crate::parts::Visit;
-use crate::plain::{plainly, with_number};
+use crate::parts::{Visit, Visited, WAITING};
+use crate::plain::{done, plainly, with_number};
 use board::Board;
 use feed::Feed;
 use meaning::Stop;
@@ -30,15 +30,16 @@ impl<'a, F: Feed> Visit<'a, F> {
         memo: &mut Memo,
         x: u16,
         e: u16,
-    ) -> Result<bool, Stop>
+    ) -> Result<Visited, Stop>
         requires variable { x < vec_len self.now.sheet.now.tables.variables }
         requires ready { Ready self.now (held board.old) }
-        ensures { told result (held board.new) ≡ ruled F.Feed.readings self.now (is_so x e) (held board.old) }
+        ensures visited { told (changed result) (held board.new) ≡ ruled F.Feed.readings self.now (is_so x e) (held board.old) }
+        ensures done { IfOk result (λ v. v.done ≡ not (awaits F.Feed.readings self.now (is_so x e) (held board.old))) }
     {
         let Some(v) = self.number(board, memo, e) else {
-            return Ok(false);
+            return Ok(WAITING);
         };
-        board.give(self.sheet, self.duty.statement, x, v)
+        done(board.give(self.sheet, self.duty.statement, x, v))
     }
 
     // `if`: the chosen part is added.
@@ -49,37 +50,50 @@ impl<'a, F: Feed> Visit<'a, F> {
         e: u16,
         p: u16,
         q: u16,
-    ) -> Result<bool, Stop>
+    ) -> Result<Visited, Stop>
         requires ready { Ready self.now (held board.old) }
-        ensures { told result (held board.new) ≡ ruled F.Feed.readings self.now (if_so e p q) (held board.old) }
+        ensures visited { told (changed result) (held board.new) ≡ ruled F.Feed.readings self.now (if_so e p q) (held board.old) }
+        ensures done { IfOk result (λ v. v.done ≡ not (awaits F.Feed.readings self.now (if_so e p q) (held board.old))) }
     {
         let Some(v) = self.number(board, memo, e) else {
-            return Ok(false);
+            return Ok(WAITING);
         };
         let chosen = if v != 0 { p } else { q };
-        board.add(plainly(chosen, self.duty.span))
+        done(board.add(plainly(chosen, self.duty.span)))
     }
 
     // `halt`: by the number of its test.
-    pub(crate) fn halt_rule(&self, board: &mut Board, memo: &mut Memo, e: u16) -> Result<bool, Stop>
+    pub(crate) fn halt_rule(
+        &self,
+        board: &mut Board,
+        memo: &mut Memo,
+        e: u16,
+    ) -> Result<Visited, Stop>
         requires ready { Ready self.now (held board.old) }
-        ensures { told result (held board.new) ≡ ruled F.Feed.readings self.now (halt_so e) (held board.old) }
+        ensures visited { told (changed result) (held board.new) ≡ ruled F.Feed.readings self.now (halt_so e) (held board.old) }
+        ensures done { IfOk result (λ v. v.done ≡ not (awaits F.Feed.readings self.now (halt_so e) (held board.old))) }
     {
         let Some(v) = self.number(board, memo, e) else {
-            return Ok(false);
+            return Ok(WAITING);
         };
-        self.halt_by(board, v)
+        done(self.halt_by(board, v))
     }
 
     // `len`: by its number, or by that of its expression.
-    pub(crate) fn len_rule(&self, board: &mut Board, memo: &mut Memo, e: u16) -> Result<bool, Stop>
+    pub(crate) fn len_rule(
+        &self,
+        board: &mut Board,
+        memo: &mut Memo,
+        e: u16,
+    ) -> Result<Visited, Stop>
         requires ready { Ready self.now (held board.old) }
-        ensures { told result (held board.new) ≡ ruled F.Feed.readings self.now (len_so e) (held board.old) }
+        ensures visited { told (changed result) (held board.new) ≡ ruled F.Feed.readings self.now (len_so e) (held board.old) }
+        ensures done { IfOk result (λ v. v.done ≡ not (awaits F.Feed.readings self.now (len_so e) (held board.old))) }
     {
         let Some(v) = self.duty.number.or_else(|| self.number(board, memo, e)) else {
-            return Ok(false);
+            return Ok(WAITING);
         };
-        self.len_by(board, v)
+        done(self.len_by(board, v))
     }
 
     // `gets`: the variable takes the number that was carried; or the number of the expression is carried, where the span is on.
@@ -89,21 +103,22 @@ impl<'a, F: Feed> Visit<'a, F> {
         memo: &mut Memo,
         x: u16,
         e: u16,
-    ) -> Result<bool, Stop>
+    ) -> Result<Visited, Stop>
         requires variable { x < vec_len self.now.sheet.now.tables.variables }
         requires ready { Ready self.now (held board.old) }
-        ensures { told result (held board.new) ≡ ruled F.Feed.readings self.now (gets_so x e) (held board.old) }
+        ensures visited { told (changed result) (held board.new) ≡ ruled F.Feed.readings self.now (gets_so x e) (held board.old) }
+        ensures done { IfOk result (λ v. v.done ≡ not (awaits F.Feed.readings self.now (gets_so x e) (held board.old))) }
     {
         if let Some(v) = self.duty.number {
-            return board.give(self.sheet, self.duty.statement, x, v);
+            return done(board.give(self.sheet, self.duty.statement, x, v));
         }
         if board.end_of(self.duty.span) != End::On {
-            return Ok(false);
+            return Ok(WAITING);
         }
         let Some(v) = self.number(board, memo, e) else {
-            return Ok(false);
+            return Ok(WAITING);
         };
-        self.gets_by(board, v)
+        done(self.gets_by(board, v))
     }
 
     // `for`: by its count, or the `for` with the count that its expression gives.
@@ -113,17 +128,18 @@ impl<'a, F: Feed> Visit<'a, F> {
         memo: &mut Memo,
         e: u16,
         p: u16,
-    ) -> Result<bool, Stop>
+    ) -> Result<Visited, Stop>
         requires ready { Ready self.now (held board.old) }
-        ensures { told result (held board.new) ≡ ruled F.Feed.readings self.now (for_so e p) (held board.old) }
+        ensures visited { told (changed result) (held board.new) ≡ ruled F.Feed.readings self.now (for_so e p) (held board.old) }
+        ensures done { IfOk result (λ v. v.done ≡ not (awaits F.Feed.readings self.now (for_so e p) (held board.old))) }
     {
         if let Some(c) = self.duty.number {
-            return self.for_by(board, p, c);
+            return done(self.for_by(board, p, c));
         }
         let Some(v) = self.number(board, memo, e) else {
-            return Ok(false);
+            return Ok(WAITING);
         };
-        board.add(with_number(self.duty, v))
+        done(board.add(with_number(self.duty, v)))
     }
 
     // `while`: by the number of its test.
@@ -133,14 +149,15 @@ impl<'a, F: Feed> Visit<'a, F> {
         memo: &mut Memo,
         e: u16,
         p: u16,
-    ) -> Result<bool, Stop>
+    ) -> Result<Visited, Stop>
         requires ready { Ready self.now (held board.old) }
-        ensures { told result (held board.new) ≡ ruled F.Feed.readings self.now (while_so e p) (held board.old) }
+        ensures visited { told (changed result) (held board.new) ≡ ruled F.Feed.readings self.now (while_so e p) (held board.old) }
+        ensures done { IfOk result (λ v. v.done ≡ not (awaits F.Feed.readings self.now (while_so e p) (held board.old))) }
     {
         let Some(v) = self.number(board, memo, e) else {
-            return Ok(false);
+            return Ok(WAITING);
         };
-        self.while_by(board, p, v)
+        done(self.while_by(board, p, v))
     }
 
     // `request`: the variable takes the reading, where there is one.

@@ -1,10 +1,9 @@
 -- A duty of the list has a span that lives.
-use Rattle.std.proofs.Common.{sym, ap, ◌∙◌, subst}
+use Rattle.std.proofs.Common.{sym, subst}
 use Rattle.meaning.specs.Intervals.{Setting}
 use Rattle.meaning.specs.Order.{Tidy}
 use Rattle.meaning.specs.Rules.{visit}
 use Rattle.meaning.proofs.Lists.{nth_in}
-use Rattle.board.specs.Answers.{told}
 use Rattle.board.specs.Held.{held}
 use Rattle.passes.specs.Passing.{setting_of}
 use Rattle.passes.proofs.Keeping.{limits_of, told_ok, visit_later, visit_tidy}
@@ -23,7 +22,7 @@ returns-clause-leaves g c =
     let R = setting_of g.F.Feed.readings p in
     let w = held c.args.board.now in
     let u = held c.visit_duty.new.board in
-    told_ok c.visit_duty.result u (visit R p.state c.args.item w) _ c.visit_duty.ensures
+    told_ok c.visit_duty.result u (visit R p.state c.args.item w) _ c.visit_duty.ensures.visited
     (λ b e. record {
       tidy = λ S m. subst (λ (z : Setting). Tidy z w → Tidy z u) (sym m) (λ t. visit_tidy R (limits_of p.sheet.now) p.state c.requires.there.0 c.args.item w u b t c.requires.there.1 e);
       later = visit_later R p.state c.args.item w u b e;
@@ -35,4 +34,4 @@ returns-clause-vain g c =
     let w = held c.args.board.now in
     let u = held c.visit_duty.new.board in
     let t = subst (λ S. Tidy S w) c.requires.tidy.1 c.requires.tidy.2 in
-    λ e s. duty_vain (setting_of g.F.Feed.readings p) p.state c.requires.there.0 c.args.item w u t c.requires.there.1 s (sym (ap (λ r. told r u) e) ∙ c.visit_duty.ensures)
+    duty_vain (setting_of g.F.Feed.readings p) p.state c.requires.there.0 c.args.item w u c.visit_duty.result t c.requires.there.1 c.visit_duty.ensures.visited c.visit_duty.ensures.done

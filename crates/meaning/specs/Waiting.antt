@@ -1,0 +1,44 @@
+-- What a visit to a duty waits for. The contracts of the code that settles a state ask for it; no law speaks of it. Assumes nothing.
+use Rattle.std.specs.Prelude.{Bool, true, false, not, ℤ, Some, None, Option, is_none}
+use Rattle.sheet.specs.declared.parts.Statement.{Statement}
+use Rattle.sheet.specs.declared.parts.Statement.TheVariants.{True, False, Empty, More, Is, And, If, Next, Always, Halt, Len, Gets, Chop, For, While, Request}
+use Rattle.value.specs.declared.parts.End.{End}
+use Rattle.value.specs.declared.parts.End.TheVariants.{Unknown, On, Last}
+use Rattle.meaning.specs.declared.parts.Duty.{Duty}
+use Rattle.meaning.specs.Intervals.{Setting, statement_at}
+use Rattle.meaning.specs.Work.{Work}
+use Rattle.meaning.specs.Rules.{known_for}
+use Rattle.meaning.specs.Runs.{is_ended}
+
+-- whether there is something to wait for: a span that is on, or else what b says
+abbrev pub till_on : End → Bool → Bool
+till_on Unknown b = true
+till_on On b = b
+till_on Last b = true
+
+-- whether the rule of a statement, for a duty with the number o, waits: for the number of an expression, for the end of
+-- the duty's span, or for both; it may have done a part of its work meanwhile
+abbrev pub rule_waits : Setting → Statement → Option ℤ → Duty → Work → Bool
+rule_waits S True o d w = false
+rule_waits S False o d w = false
+rule_waits S Empty o d w = false
+rule_waits S More o d w = false
+rule_waits S (Is x e) o d w = is_none (known_for S w d e)
+rule_waits S (And p q) o d w = false
+rule_waits S (If e p q) o d w = is_none (known_for S w d e)
+rule_waits S (Next p) o d w = false
+rule_waits S (Always p) o d w = not (is_ended (w.ends d.span))
+rule_waits S (Halt e) o d w = is_none (known_for S w d e)
+rule_waits S (Len e) None d w = is_none (known_for S w d e)
+rule_waits S (Len e) (Some c) d w = false
+rule_waits S (Gets x e) None d w = till_on (w.ends d.span) (is_none (known_for S w d e))
+rule_waits S (Gets x e) (Some v) d w = false
+rule_waits S (Chop p q) o d w = false
+rule_waits S (For e p) None d w = is_none (known_for S w d e)
+rule_waits S (For e p) (Some c) d w = false
+rule_waits S (While e p) o d w = is_none (known_for S w d e)
+rule_waits S (Request x) o d w = false
+
+-- whether a visit to a duty waits
+abbrev pub waits : Setting → Duty → Work → Bool
+waits S d w = rule_waits S (statement_at S d.statement) d.number d w
