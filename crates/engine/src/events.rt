@@ -24,10 +24,6 @@ pub(crate) fn meet(condition: &mut Condition, event: Event) -> Result<(), Denial
 {
     match (&mut *condition, event) {
         (Condition::Open, Event::Load | Event::Begin) => Err(Denial::RunIsOpen),
-        (Condition::Idle | Condition::Ended(_), Event::Load | Event::Begin) => Ok(()),
-        (Condition::Idle | Condition::Ended(_), Event::Advance(_, _) | Event::Abandon) => Err(
-            Denial::NoRunIsOpen,
-        ),
         (Condition::Open, Event::Advance(states, own)) => {
             if !(1..=MOST_STATES).contains(&states) {
                 Err(Denial::WrongStates)
@@ -41,5 +37,7 @@ pub(crate) fn meet(condition: &mut Condition, event: Event) -> Result<(), Denial
             *condition = Condition::Ended(Ending::Abandoned);
             Ok(())
         }
+        (Condition::Idle | Condition::Ended(_), Event::Load | Event::Begin) => Ok(()),
+        (Condition::Idle | Condition::Ended(_), _) => Err(Denial::NoRunIsOpen),
     }
 }
