@@ -1,4 +1,4 @@
--- What the contracts of an engine say: what an engine means, what an answer tells, what each call does, and the law of runs.
+-- What the contracts of an engine say: what an engine and a recorder mean, what an answer tells, and what each call does.
 pub mod Meant
 pub mod Told
 pub mod Calls

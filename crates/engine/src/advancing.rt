@@ -1,10 +1,12 @@
 // The call that settles states.
-ghost use Rattle.std.specs.Prelude.{◌≡◌, ◌<◌, true, false, length, vec_len, Ok as ok, ◌&&◌, ◌==◌, if◌then◌else◌};
+ghost use Rattle.std.specs.Prelude.{◌≡◌, ◌<◌, true, false, length, vec_len, Ok as ok, Err as err, ◌&&◌, ◌==◌, if◌then◌else◌};
 ghost use Rattle.record.specs.Rules.{all_small};
 ghost use Rattle.meaning.specs.Intervals.{under};
 ghost use Rattle.board.specs.Held.{held, sheet_of};
 ghost use Rattle.calls.specs.declared.parts.Condition.TheVariants.{Open as is_open, Ended as ended_so};
 ghost use Rattle.calls.specs.declared.parts.Ending.TheVariants.{Finished as finished_so};
+ghost use Rattle.calls.specs.declared.parts.Denial.{Denial};
+ghost use Rattle.calls.specs.declared.parts.NotAdvanced.TheVariants.{Denied as denied_so};
 ghost use Rattle.calls.specs.Calls.{Advances, Settled};
 ghost use Rattle.calls.specs.Meant.{recording, with_state};
 ghost use Rattle.calls.specs.Told.{told, to_advance};
@@ -49,6 +51,7 @@ impl Engine {
     ) -> Result<Progress, NotAdvanced>
         ensures outcome { Advances (F.readings feed.now) states (meant self.old) (recording R.states R.breadth R.spare recorder.old) (told (to_advance result)) (meant self.new) (recording R.states R.breadth R.spare recorder.new) }
         ensures owner { WritesOn R.capacity R.lent R.reach R.cell recorder.old recorder.new }
+        ensures denied { (d : Denial) → result ≡ err (denied_so d) → recorder.new ≡ recorder.old }
     {
         let own = self.owns(recorder);
         meet(&mut self.condition, Event::Advance(states, own)).map_err(NotAdvanced::Denied)?;
@@ -68,6 +71,7 @@ impl Engine {
         ensures settled { Settled (under (sheet_of self.old.loader.sheet) (F.readings feed.now)) states (recording R.states R.breadth R.spare recorder.old) (held self.old.settler.board) (told (to_advance result)) (meant self.new).standing (recording R.states R.breadth R.spare recorder.new) }
         ensures sheet { self.new.loader ≡ self.old.loader }
         ensures owner { WritesOn R.capacity R.lent R.reach R.cell recorder.old recorder.new }
+        ensures granted { (d : Denial) → result ≡ err (denied_so d) → ⊥ }
     {
         for _i in 0..states {
             if self.record_state(feed, recorder)? {
@@ -101,6 +105,7 @@ impl Engine {
         ensures wide { R.breadth recorder.new ≡ R.breadth recorder.old }
         ensures counted { result ≡ ok false → length (R.states recorder.new) ≡ self.new.settler.state }
         ensures owner { WritesOn R.capacity R.lent R.reach R.cell recorder.old recorder.new }
+        ensures granted { (d : Denial) → result ≡ err (denied_so d) → ⊥ }
     {
         let state = self.settler.state();
         if recorder.room() == 0 {

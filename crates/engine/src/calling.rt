@@ -1,7 +1,8 @@
 // The calls on an engine that settle no state.
-ghost use Rattle.std.specs.Prelude.{◌≡◌, ℕ, IfOk};
+ghost use Rattle.std.specs.Prelude.{◌≡◌, ℕ, IfOk, Err as err};
 ghost use Rattle.sheet.specs.Held.{first};
 ghost use Rattle.record.specs.Owned.{LeavesOwner};
+ghost use Rattle.calls.specs.declared.parts.Denial.{Denial as Reason};
 ghost use Rattle.calls.specs.Calls.{Loads, Begins, Abandons, report_of};
 ghost use Rattle.calls.specs.Meant.{idle, recording};
 ghost use Rattle.calls.specs.Told.{told, to_load, to_begin, to_abandon, to_report};
@@ -47,6 +48,7 @@ impl Engine {
         ensures outcome { Begins (R.capacity recorder.old) (meant self.old) (recording R.states R.breadth R.spare recorder.old) (told (to_begin result)) (meant self.new) (recording R.states R.breadth R.spare recorder.new) }
         ensures untouched { (k : ℕ) → R.cell recorder.new k ≡ R.cell recorder.old k }
         ensures owner { LeavesOwner R.capacity R.lent R.reach R.cell recorder.old recorder.new }
+        ensures denied { (d : Reason) → result ≡ err d → recorder.new ≡ recorder.old }
     {
         meet(&mut self.condition, Event::Begin)?;
         let sheet = self.loader.sheet();
