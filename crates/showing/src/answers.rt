@@ -1,4 +1,6 @@
 // The lines that tell what came of a text.
+ghost use Rattle.showing.specs.Whole.{NotDenied};
+
 use engine::{NotAdvanced, NotLoaded, Progress};
 use meaning::Stop;
 use record::Recorder;
@@ -16,7 +18,9 @@ pub(crate) fn show_run<R: Recorder>(
     rt: &impl Print,
     recorder: &R,
     answer: Result<Progress, NotAdvanced>,
-) -> io::Result<()> {
+) -> io::Result<()>
+    requires granted { NotDenied answer }
+{
     for state in 0..recorder.count() {
         show_state(rt, recorder, state)?;
     }
@@ -37,12 +41,14 @@ fn show_state<R: Recorder>(rt: &impl Print, recorder: &R, state: usize) -> io::R
 }
 
 // How a run stands after its advance, in one word.
-fn verdict(answer: Result<Progress, NotAdvanced>) -> &'static str {
+fn verdict(answer: Result<Progress, NotAdvanced>) -> &'static str
+    requires granted { NotDenied answer }
+{
     match answer {
         Ok(Progress::Finished(_)) => "finished",
         Ok(Progress::Open(_)) => "open",
         Err(NotAdvanced::Full(_)) => "full",
-        Err(NotAdvanced::Denied(_)) => "denied",
+        Err(NotAdvanced::Denied(_)) => unreachable!(),
         Err(NotAdvanced::Stopped(cause)) => match cause.stop {
             Stop::Contradiction(_) => "contradiction",
             Stop::Undetermined(_) => "undetermined",

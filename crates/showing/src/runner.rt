@@ -1,5 +1,9 @@
 // The memory for runs, and one run in it.
 ghost use Rattle.std.specs.Prelude.{◌≡◌, ◌≤◌, length, vec_len};
+ghost use Rattle.calls.specs.Meant.{idle, recording};
+ghost use Rattle.calls.specs.Told.{told, to_advance};
+ghost use Rattle.engine.specs.Held.{meant};
+ghost use Rattle.showing.specs.Whole.{FromTheFirst, NotDenied};
 
 use crate::answers::{show_refusal, show_run};
 use engine::{Engine, NotAdvanced, Progress};
@@ -40,13 +44,18 @@ fn numbers_for(variables: usize) -> usize
 }
 
 // Begins a run of the sheet that the engine holds, and advances it once, without readings.
-fn run<R: Recorder>(engine: &mut Engine, recorder: &mut R) -> Result<Progress, NotAdvanced> {
+fn run<R: Recorder>(engine: &mut Engine, recorder: &mut R) -> Result<Progress, NotAdvanced>
+    requires idle { (meant engine.old).standing ≡ idle }
+    ensures whole { FromTheFirst (meant engine.old).sheet (R.capacity recorder.old) (told (to_advance result)) (meant engine.new).standing (recording R.states R.breadth R.spare recorder.new) }
+    ensures granted { NotDenied result }
+{
     engine.begin(recorder).map_err(NotAdvanced::Denied)?;
     engine.advance(STATES, &Silent, recorder)
 }
 
 // Runs the sheet that the engine holds, in a table that is as long as any sheet needs, and prints what comes of it.
 fn show_held(rt: &impl Print, engine: &mut Engine, table: &mut [i64]) -> io::Result<()>
+    requires idle { (meant engine.old).standing ≡ idle }
     requires long { 5041 ≤ length table.old }
 {
     let variables = engine.sheet().tables.variables.len();
