@@ -1,0 +1,7 @@
+// Runs sheets, and prints what comes of each.
+#![tactic(auto)]
+
+mod answers;
+mod runner;
+
+pub use crate::runner::Runner;
