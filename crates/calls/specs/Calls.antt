@@ -13,20 +13,22 @@ use Rattle.calls.specs.declared.parts.Denial.TheVariants.{RunIsOpen, NoRunIsOpen
 use Rattle.calls.specs.declared.parts.Ending.TheVariants.{Finished, Abandoned, Stopped}
 use Rattle.calls.specs.declared.parts.NotAdvanced.TheVariants.{Full}
 use Rattle.calls.specs.declared.parts.NotLoaded.TheVariants.{RunIsOpen as RunOpen, Refused}
+use Rattle.calls.specs.declared.parts.Report.{Report}
 use Rattle.calls.specs.Meant.{Standing, idle, running, ended, Meant, stands, Recording, blank, with_state}
-use Rattle.calls.specs.Told.{Told, done, found, is_idle, is_open, is_finished, count, told_denial, told_text_of, told_advance, told_stop, told_ending}
+use Rattle.calls.specs.Told.{Told, done, found, is_idle, is_open, is_finished, count, told_denial, told_not_loaded, told_advance, told_stop, told_ending}
 
 -- a load with this verdict on its text, where no run is open: the sheet is held and the engine is idle, or nothing has changed
 abbrev pub LoadsBy : Result Content Refusal → Meant → Told → Meant → Type 0
 LoadsBy (Ok c) e a d = (a ≡ done) × (d ≡ record { sheet = c; standing = idle })
-LoadsBy (Err r) e a d = (a ≡ told_text_of (Refused r)) × (d ≡ e)
+LoadsBy (Err r) e a d = (a ≡ told_not_loaded (Refused r)) × (d ≡ e)
 
 -- a load of this text: denied while a run is open
 abbrev pub LoadsIn : Standing → List ℕ → Meant → Told → Meant → Type 0
 LoadsIn idle text e a d = LoadsBy (verdict text) e a d
-LoadsIn (running k w) text e a d = (a ≡ told_text_of RunOpen) × (d ≡ e)
+LoadsIn (running k w) text e a d = (a ≡ told_not_loaded RunOpen) × (d ≡ e)
 LoadsIn (ended x) text e a d = LoadsBy (verdict text) e a d
 
+-- what a load of this text does, by how the engine stands
 abbrev pub Loads : List ℕ → Meant → Told → Meant → Type 0
 Loads text e a d = LoadsIn e.standing text e a d
 
@@ -41,6 +43,7 @@ BeginsIn idle capacity e q a d p = Opens capacity e a d p
 BeginsIn (running k w) capacity e q a d p = (a ≡ told_denial RunIsOpen) × (d ≡ e) × (p ≡ q)
 BeginsIn (ended x) capacity e q a d p = Opens capacity e a d p
 
+-- what a begin does, by how the engine stands
 abbrev pub Begins : (ℕ → ℕ) → Meant → Recording → Told → Meant → Recording → Type 0
 Begins capacity e q a d p = BeginsIn e.standing capacity e q a d p
 
@@ -78,6 +81,7 @@ AdvancesIn idle f n e q a d p = (a ≡ told_denial NoRunIsOpen) × (d ≡ e) × 
 AdvancesIn (running k w) f n e q a d p = AdvancesBy (not_advanced n k e q) f n w e q a d p
 AdvancesIn (ended x) f n e q a d p = (a ≡ told_denial NoRunIsOpen) × (d ≡ e) × (p ≡ q)
 
+-- what an advance by n states does under the readings f, by how the engine stands
 abbrev pub Advances : (ℕ → ℕ → Option ℤ) → ℕ → Meant → Recording → Told → Meant → Recording → Type 0
 Advances f n e q a d p = AdvancesIn e.standing f n e q a d p
 
@@ -87,14 +91,15 @@ AbandonsIn idle e a d = (a ≡ told_denial NoRunIsOpen) × (d ≡ e)
 AbandonsIn (running k w) e a d = (a ≡ done) × (d ≡ stands (ended Abandoned) e)
 AbandonsIn (ended x) e a d = (a ≡ told_denial NoRunIsOpen) × (d ≡ e)
 
+-- what an abandon does, by how the engine stands
 abbrev pub Abandons : Meant → Told → Meant → Type 0
 Abandons e a d = AbandonsIn e.standing e a d
 
--- what a report tells of an engine that stands so
-abbrev pub report_of : Standing → Told
-report_of idle = is_idle
-report_of (running k w) = is_open (count k ∷ [])
-report_of (ended x) = told_ending x
+-- what a report answers of an engine that stands so
+abbrev pub report_of : Standing → Report
+report_of idle = Report.Idle
+report_of (running k w) = Report.Open k
+report_of (ended x) = Report.Ended x
 
 -- what a look tells of a number, if there is one
 abbrev pub number_in : Option ℤ → Told

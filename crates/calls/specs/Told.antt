@@ -3,7 +3,7 @@ use Rattle.std.specs.Prelude.{ℕ, Bool, true, false, List, [], ◌∷◌, ℤ, 
 use Rattle.meaning.specs.declared.parts.Stop.{Stop}
 use Rattle.meaning.specs.declared.parts.Stop.TheVariants.{Contradiction, Undetermined, Crowded}
 use Rattle.meaning.specs.Runs.{open_number}
-use Rattle.verdict.specs.Told.{told as told_text}
+use Rattle.verdict.specs.Told.{told as refusal_told}
 use Rattle.calls.specs.declared.parts.Denial.{Denial}
 use Rattle.calls.specs.declared.parts.Denial.TheVariants.{RunIsOpen, NoRunIsOpen, WrongStates, OtherRecorder, NoSuchState, NoSuchVariable}
 use Rattle.calls.specs.declared.parts.Ending.{Ending}
@@ -59,18 +59,20 @@ denial_number NoSuchState = 23
 denial_number NoSuchVariable = 24
 denial_number OtherRecorder = 25
 
--- the number of a text that is not loaded, its line and its word; none is looked at while a run is open
+-- the number of a text that is not loaded: that of its refusal, or of the denial while a run is open
 abbrev pub text_number : NotLoaded → ℕ
 text_number NotLoaded.RunIsOpen = denial_number RunIsOpen
-text_number (Refused r) = (told_text r).number
+text_number (Refused r) = (refusal_told r).number
 
+-- the line that is meant, or 0
 abbrev pub text_line : NotLoaded → ℕ
 text_line NotLoaded.RunIsOpen = 0
-text_line (Refused r) = (told_text r).line
+text_line (Refused r) = (refusal_told r).line
 
+-- the word that is meant, or 0
 abbrev pub text_word : NotLoaded → ℕ
 text_word NotLoaded.RunIsOpen = 0
-text_word (Refused r) = (told_text r).word
+text_word (Refused r) = (refusal_told r).word
 
 -- the numbers of stops
 abbrev pub stop_number : Stop → ℕ
@@ -90,27 +92,23 @@ advance_number (Denied d) = denial_number d
 advance_number (Full k) = 34
 advance_number (NotAdvanced.Stopped c) = stop_number c.stop
 
--- and its values: none, or the state, with what its stop says
-abbrev pub advance_values : NotAdvanced → List Value
-advance_values (Denied d) = []
-advance_values (Full k) = state k ∷ []
-advance_values (NotAdvanced.Stopped c) = state c.state ∷ stop_values c.stop
-
 -- a denial has no values
 abbrev pub told_denial : Denial → Told
 told_denial d = numbered (denial_number d) []
 
 -- a text that is not loaded
-abbrev pub told_text_of : NotLoaded → Told
-told_text_of x = numbered (text_number x) (line (text_line x) ∷ word (text_word x) ∷ [])
+abbrev pub told_not_loaded : NotLoaded → Told
+told_not_loaded x = numbered (text_number x) (line (text_line x) ∷ word (text_word x) ∷ [])
 
 -- a stop at state k
 abbrev pub told_stop : ℕ → Stop → Told
 told_stop k s = numbered (stop_number s) (state k ∷ stop_values s)
 
--- an advance that has not recorded all its states
+-- an advance that has not recorded all its states: no room is told with the state that has none
 abbrev pub told_advance : NotAdvanced → Told
-told_advance x = numbered (advance_number x) (advance_values x)
+told_advance (Denied d) = told_denial d
+told_advance (Full k) = numbered (advance_number (Full k)) (state k ∷ [])
+told_advance (NotAdvanced.Stopped c) = told_stop c.state c.stop
 
 -- how a run has ended
 abbrev pub told_ending : Ending → Told
@@ -121,7 +119,7 @@ told_ending (Stopped c) = told_stop c.state c.stop
 -- what each answer tells
 abbrev pub told : Answer → Told
 told (to_load (Ok u)) = done
-told (to_load (Err x)) = told_text_of x
+told (to_load (Err x)) = told_not_loaded x
 told (to_begin (Ok u)) = done
 told (to_begin (Err d)) = told_denial d
 told (to_advance (Ok (Progress.Open n))) = is_open (count n ∷ [])

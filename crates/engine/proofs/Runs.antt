@@ -8,12 +8,12 @@ use Rattle.meaning.specs.Runs.{Record}
 use Rattle.meaning.proofs.Theorems.{finished_is_the_one, open_begins_all, contradiction_leaves_none}
 use Rattle.meaning.proofs.Alike.{equal_runs_agree}
 use Rattle.passes.proofs.Keeping.{limits_of}
-use Rattle.calls.specs.Meant.{Recording}
+use Rattle.calls.specs.Meant.{Meant, Recording}
 use Rattle.calls.proofs.Moments.{Moment, moment_finished, moment_open, moment_refuted, moment_record}
 use Rattle.calls.proofs.Keeping.{loads_moment, begins_moment, begin_denied_moment, advances_moment, abandons_moment}
 use Rattle.engine.specs.declared.engine.Engine.{Engine}
 use Rattle.engine.specs.Held.{meant}
-use Rattle.engine.specs.Law.{Run, begun, begin_denied, loaded, advanced, abandoned, LawOfRuns}
+use Rattle.engine.specs.Law.{Run, begun, begin_denied, loaded, advanced, abandoned, asked, LawOfRuns}
 
 -- the sheet of a run keeps the limits
 run_limits : {s : Content} {f : ℕ → ℕ → Option ℤ} {e : Engine} {q : Recording} {x y : Bool} → Run s f e q x y → Limits s
@@ -22,6 +22,7 @@ run_limits (begin_denied e d q p x y capacity z r b) = run_limits r
 run_limits (loaded e d q x y text a r l) = run_limits r
 run_limits (advanced e d q p x y n a r v) = run_limits r
 run_limits (abandoned e d q x y a r v) = run_limits r
+run_limits (asked e d q x y r h) = run_limits r
 
 -- and every moment of it is one
 run_moment : {s : Content} {f : ℕ → ℕ → Option ℤ} {e : Engine} {q : Recording} {x y : Bool} → Run s f e q x y → Moment (under s f) (meant e) q.states x y
@@ -30,6 +31,7 @@ run_moment {s} {f} (begin_denied e d q p x y capacity z r b) = begin_denied_mome
 run_moment {s} {f} (loaded e d q x y text a r l) = loads_moment (under s f) text (meant e) (meant d) q.states x y a (run_moment r) l
 run_moment {s} {f} (advanced e d q p x y n a r v) = advances_moment (under s f) n (meant e) (meant d) q p x y a (run_moment r) v
 run_moment {s} {f} (abandoned e d q x y a r v) = abandons_moment (under s f) (meant e) (meant d) q.states x y a (run_moment r) v
+run_moment {s} {f} (asked e d q x y r h) = subst (λ (m : Meant). Moment (under s f) m q.states x y) (sym h) (run_moment r)
 
 run_record : {s : Content} {f : ℕ → ℕ → Option ℤ} {e : Engine} {q : Recording} {x y : Bool} → Run s f e q x y → Record (under s f) q.states
 run_record {s} {f} {e} {q} {x} {y} r = moment_record (under s f) (meant e) q.states x y (run_moment r)

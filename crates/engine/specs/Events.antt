@@ -32,14 +32,14 @@ met Idle e = met_closed e
 met Open e = met_open e
 met (Ended x) e = met_closed e
 
--- an open run after an event: to abandon ends it
+-- an open run after an event that is looked at: to abandon ends it
 abbrev pub turned_open : Event → Condition
 turned_open Load = Open
 turned_open Begin = Open
 turned_open (Advance n own) = Open
 turned_open Abandon = Ended Abandoned
 
--- the condition after an event
+-- the condition after an event that is looked at; only to abandon turns it
 abbrev pub turned : Condition → Event → Condition
 turned Idle e = Idle
 turned Open e = turned_open e

@@ -13,7 +13,6 @@ use Rattle.engine.specs.Held.{meant}
 
 -- a run of the sheet s with one recorder and one feed, which has the readings f: the engine and the recording after one of its calls,
 -- whether an advance has answered that it finished, and whether one has answered that it met a contradiction.
--- A report and a look change neither engine nor recording.
 pub data Run (s : Content) (f : ℕ → ℕ → Option ℤ) : Engine → Recording → Bool → Bool → Type 0 where
   -- a begin that is not denied opens a run of the sheet that the engine holds
   begun : (e d : Engine) (q p : Recording) (capacity : ℕ → ℕ) → (meant e).sheet ≡ s → Begins capacity (meant e) q done (meant d) p → Run s f d p false false
@@ -25,6 +24,8 @@ pub data Run (s : Content) (f : ℕ → ℕ → Option ℤ) : Engine → Recordi
   advanced : (e d : Engine) (q p : Recording) (x y : Bool) (n : ℕ) (a : Told) → Run s f e q x y → Advances f n (meant e) q a (meant d) p → Run s f d p (x || says_finished a) (y || says_contradiction a)
   -- an abandon, whatever it answers
   abandoned : (e d : Engine) (q : Recording) (x y : Bool) (a : Told) → Run s f e q x y → Abandons (meant e) a (meant d) → Run s f d q x y
+  -- a call that tells something and changes nothing that the engine means: a report, a look, or one that tells of sheets
+  asked : (e d : Engine) (q : Recording) (x y : Bool) → Run s f e q x y → meant d ≡ meant e → Run s f d q x y
 
 -- the law of runs, at every moment of every run
 pub record LawOfRuns : Type 0 where

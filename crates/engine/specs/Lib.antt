@@ -1,4 +1,4 @@
--- What the contracts of this crate say: what an engine means, what may happen to it, and the law of runs.
+-- What the contracts of this crate say: what an engine means, what may happen to it, one state of an advance, and the law of runs.
 pub mod Held
 pub mod Events
 pub mod Advancing

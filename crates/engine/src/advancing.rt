@@ -4,9 +4,10 @@ ghost use Rattle.record.specs.Rules.{all_small};
 ghost use Rattle.meaning.specs.Intervals.{under};
 ghost use Rattle.board.specs.Held.{held, sheet_of};
 ghost use Rattle.calls.specs.declared.parts.Condition.TheVariants.{Open as is_open, Ended as ended_so};
-ghost use Rattle.calls.specs.declared.parts.Ending.TheVariants.{Finished as finished_so};
+ghost use Rattle.calls.specs.declared.parts.Ending.TheVariants.{Finished as finished_so, Stopped as stop_so};
+ghost use Rattle.calls.specs.declared.parts.Cause.{Cause as Met};
 ghost use Rattle.calls.specs.declared.parts.Denial.{Denial};
-ghost use Rattle.calls.specs.declared.parts.NotAdvanced.TheVariants.{Denied as denied_so};
+ghost use Rattle.calls.specs.declared.parts.NotAdvanced.TheVariants.{Denied as denied_so, Stopped as stopped_so};
 ghost use Rattle.calls.specs.Calls.{Advances, Settled};
 ghost use Rattle.calls.specs.Meant.{recording, with_state};
 ghost use Rattle.calls.specs.Told.{told, to_advance};
@@ -31,7 +32,7 @@ fn following(last: bool) -> Condition
 }
 
 // Has a state recorded for which there is room and that fits.
-fn record<R: Recorder>(recorder: &mut R, state: &[i64])
+fn take_state<R: Recorder>(recorder: &mut R, state: &[i64])
     requires room { 0 < R.spare recorder.old }
     requires wide { length state.now ≡ R.breadth recorder.old }
     requires small { all_small state.now ≡ true }
@@ -52,6 +53,7 @@ impl Engine {
         ensures outcome { Advances (F.readings feed.now) states (meant self.old) (recording R.states R.breadth R.spare recorder.old) (told (to_advance result)) (meant self.new) (recording R.states R.breadth R.spare recorder.new) }
         ensures owner { WritesOn R.capacity R.lent R.reach R.cell recorder.old recorder.new }
         ensures denied { (d : Denial) → result ≡ err (denied_so d) → recorder.new ≡ recorder.old }
+        ensures stopped { (c : Met) → result ≡ err (stopped_so c) → self.new.condition ≡ ended_so (stop_so c) }
     {
         let own = self.owns(recorder);
         meet(&mut self.condition, Event::Advance(states, own)).map_err(NotAdvanced::Denied)?;
@@ -72,6 +74,7 @@ impl Engine {
         ensures sheet { self.new.loader ≡ self.old.loader }
         ensures owner { WritesOn R.capacity R.lent R.reach R.cell recorder.old recorder.new }
         ensures granted { (d : Denial) → result ≡ err (denied_so d) → ⊥ }
+        ensures stopped { (c : Met) → result ≡ err (stopped_so c) → self.new.condition ≡ ended_so (stop_so c) }
     {
         for _i in 0..states {
             if self.record_state(feed, recorder)? {
@@ -106,6 +109,7 @@ impl Engine {
         ensures counted { result ≡ ok false → length (R.states recorder.new) ≡ self.new.settler.state }
         ensures owner { WritesOn R.capacity R.lent R.reach R.cell recorder.old recorder.new }
         ensures granted { (d : Denial) → result ≡ err (denied_so d) → ⊥ }
+        ensures stopped { (c : Met) → result ≡ err (stopped_so c) → self.new.condition ≡ ended_so (stop_so c) }
     {
         let state = self.settler.state();
         if recorder.room() == 0 {
@@ -114,7 +118,7 @@ impl Engine {
         let sheet = self.loader.sheet();
         match self.settler.step(sheet, feed) {
             Ok(settled) => {
-                record(recorder, &settled.numbers[..sheet.tables.variables.len()]);
+                take_state(recorder, &settled.numbers[..sheet.tables.variables.len()]);
                 self.condition = following(settled.last);
                 Ok(settled.last)
             }

@@ -1,11 +1,11 @@
 // The calls on an engine that settle no state.
-ghost use Rattle.std.specs.Prelude.{◌≡◌, ℕ, IfOk, Err as err};
+ghost use Rattle.std.specs.Prelude.{◌≡◌, ℕ, IfOk, Ok as ok, Err as err};
 ghost use Rattle.sheet.specs.Held.{first};
 ghost use Rattle.record.specs.Owned.{LeavesOwner};
 ghost use Rattle.calls.specs.declared.parts.Denial.{Denial as Reason};
 ghost use Rattle.calls.specs.Calls.{Loads, Begins, Abandons, report_of};
 ghost use Rattle.calls.specs.Meant.{idle, recording};
-ghost use Rattle.calls.specs.Told.{told, to_load, to_begin, to_abandon, to_report};
+ghost use Rattle.calls.specs.Told.{told, to_load, to_begin, to_abandon};
 ghost use Rattle.engine.specs.Held.{meant};
 ghost use Rattle.engine.specs.Law.{LawOfRuns};
 
@@ -48,6 +48,7 @@ impl Engine {
         ensures outcome { Begins (R.capacity recorder.old) (meant self.old) (recording R.states R.breadth R.spare recorder.old) (told (to_begin result)) (meant self.new) (recording R.states R.breadth R.spare recorder.new) }
         ensures untouched { (k : ℕ) → R.cell recorder.new k ≡ R.cell recorder.old k }
         ensures owner { LeavesOwner R.capacity R.lent R.reach R.cell recorder.old recorder.new }
+        ensures reached { result ≡ ok tt → R.reach recorder.new ≡ 0 }
         ensures denied { (d : Reason) → result ≡ err d → recorder.new ≡ recorder.old }
     {
         meet(&mut self.condition, Event::Begin)?;
@@ -67,7 +68,7 @@ impl Engine {
 
     // The engine's condition, with the count of states where a run is open.
     pub fn report(&self) -> Report
-        ensures { told (to_report result) ≡ report_of (meant self.now).standing }
+        ensures { result ≡ report_of (meant self.now).standing }
     {
         match self.condition {
             Condition::Idle => Report::Idle,

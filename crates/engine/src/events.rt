@@ -5,7 +5,7 @@ ghost use Rattle.engine.specs.Events.{met, turned};
 use calls::{Condition, Denial, Ending};
 
 // The most states that one advance is asked for.
-const MOST_STATES: usize = 1000;
+const MOST_ASKED: usize = 1000;
 
 // What is asked of an engine.
 #[derive(Clone, Copy, Debug, PartialEq, Eq)]
@@ -25,7 +25,7 @@ pub(crate) fn meet(condition: &mut Condition, event: Event) -> Result<(), Denial
     match (&mut *condition, event) {
         (Condition::Open, Event::Load | Event::Begin) => Err(Denial::RunIsOpen),
         (Condition::Open, Event::Advance(states, own)) => {
-            if !(1..=MOST_STATES).contains(&states) {
+            if !(1..=MOST_ASKED).contains(&states) {
                 Err(Denial::WrongStates)
             } else if !own {
                 Err(Denial::OtherRecorder)

@@ -26,6 +26,7 @@ impl Engine {
         }
         recorder.look(state, variable).ok_or(Denial::NoSuchVariable)
     }
+
     // The sheet that is held.
     pub fn sheet(&self) -> &Sheet
         ensures { result.now ≡ self.now.loader.sheet }

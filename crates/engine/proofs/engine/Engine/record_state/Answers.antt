@@ -22,11 +22,11 @@ returns-in-Ok-clause-one g c =
     let e = c.args.self.now in
     let f = g.F.Feed.readings c.args.feed.now in
     let q : Recording = recording R.states R.breadth R.spare c.args.recorder.now in
-    let p : Recording = recording R.states R.breadth R.spare c.record.new.recorder in
+    let p : Recording = recording R.states R.breadth R.spare c.take_state.new.recorder in
     let h = c.sheet-sheet.result.now in
     let x = c.in-Ok.settled in
     let room : 0 < q.room = omega (arith, c.room.ensures.answer, c.if-room-eq0.false) in
-    let one = one_more_state (under (sheet_of h) f) q p (held e.settler.board) e.settler.state (vec_len h.tables.variables) x c.following-self.result c.step.new.self c.requires.counted room c.in-Ok.ensures.steps (c.record.ensures.recorded ∙ ap (λ (z : ℕ). with_state (take z x.numbers) q) c.len.ensures) c.following-self.ensures in
+    let one = one_more_state (under (sheet_of h) f) q p (held e.settler.board) e.settler.state (vec_len h.tables.variables) x c.following-self.result c.step.new.self c.requires.counted room c.in-Ok.ensures.steps (c.take_state.ensures.recorded ∙ ap (λ (z : ℕ). with_state (take z x.numbers) q) c.len.ensures) c.following-self.ensures in
     subst (λ (z : Sheet). OneMore (under (sheet_of z) f) q (held e.settler.board) (Ok x.last) (standing_by c.following-self.result c.step.new.self) p) c.sheet-sheet.ensures one
 
 pub returns-in-Err-clause-one : goal.returns-in-Err-clause-one
