@@ -9,5 +9,5 @@ mod looking;
 
 pub use crate::engine::Engine;
 pub use calls::{Cause, Denial, Ending, NotAdvanced, NotLoaded, Progress, Report};
-pub use meaning::{LeftOpen, Stop};
 pub use load::{Refusal, Sheet};
+pub use meaning::{LeftOpen, Stop};
