@@ -1,0 +1,5 @@
+-- Lemmas that the proofs of this crate use, and those of its users.
+mod Placings
+mod Writings
+mod Sizes
+pub mod Readings

@@ -1,0 +1,23 @@
+-- How the states are read back from a text. Assumes nothing.
+use Rattle.std.specs.Prelude.{ℕ, zero, suc, List, [], ◌∷◌, ℤ, pos, Option, unwrap_or}
+use Rattle.text.specs.Cut.{before, after}
+use Rattle.text.specs.Decimals.{number_of}
+
+-- the text past n lines
+unfoldable pub past : ℕ → List ℕ → List ℕ
+past zero t = t
+past (suc n) t = past n (after 10 t)
+
+-- the number between the first `=` and the end of its line, or 0
+abbrev pub number_in : List ℕ → ℤ
+number_in t = unwrap_or (number_of 1000000 (before 10 (after 61 t))) (pos 0)
+
+-- the numbers of the first w lines
+unfoldable pub read_values : ℕ → List ℕ → List ℤ
+read_values zero t = []
+read_values (suc w) t = number_in t ∷ read_values w (after 10 t)
+
+-- the first n states of width w, each with a line ahead of its values
+unfoldable pub read_states : ℕ → ℕ → List ℕ → List (List ℤ)
+read_states w zero t = []
+read_states w (suc n) t = read_values w (after 10 t) ∷ read_states w n (past w (after 10 t))
