@@ -1,4 +1,5 @@
 -- Lemmas that the proofs of this crate use, and those of its users.
+mod Passings
 mod Placings
 mod Writings
 mod Sizes

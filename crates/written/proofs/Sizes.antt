@@ -13,8 +13,8 @@ mag_le : (z : ℤ) → mag z ≤ nat_abs z
 mag_le (pos n) = omega arith
 mag_le (negsuc n) = omega arith
 
--- a small value
-small_abs : (x : ℤ) → small x ≡ true → nat_abs x ≤ 1000000
+-- a value that may be recorded
+pub small_abs : (x : ℤ) → small x ≡ true → nat_abs x ≤ 1000000
 small_abs x e = grind arith
 
 -- a value's line has at most 13 bytes

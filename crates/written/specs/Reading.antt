@@ -8,9 +8,13 @@ unfoldable pub past : ℕ → List ℕ → List ℕ
 past zero t = t
 past (suc n) t = past n (after 10 t)
 
--- the number between the first `=` and the end of its line, or 0
+-- the number between the first `=` and the end of its line, or none
+abbrev pub next_number : List ℕ → Option ℤ
+next_number t = number_of 1000000 (before 10 (after 61 t))
+
+-- that number, or 0
 abbrev pub number_in : List ℕ → ℤ
-number_in t = unwrap_or (number_of 1000000 (before 10 (after 61 t))) (pos 0)
+number_in t = unwrap_or (next_number t) (pos 0)
 
 -- the numbers of the first w lines
 unfoldable pub read_values : ℕ → List ℕ → List ℤ

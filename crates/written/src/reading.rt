@@ -1,10 +1,10 @@
 // Reads a number back from a text.
-ghost use Rattle.std.specs.Prelude.{◌≡◌};
-ghost use Rattle.written.specs.Reading.{past, number_in};
+ghost use Rattle.std.specs.Prelude.{◌≡◌, drop};
+ghost use Rattle.written.specs.Reading.{past, next_number, number_in};
 
 use text::{Reader, number};
 
-// The number of the line that comes after so many lines.
+// The number of the line that comes after so many lines, or 0 where it has none.
 pub fn number_at(text: &[u8], lines: usize) -> i64
     ensures { result ≡ number_in (past lines text.now) }
 {
@@ -12,6 +12,14 @@ pub fn number_at(text: &[u8], lines: usize) -> i64
     for _ in 0..lines {
         reader.line();
     }
-    reader.key();
-    reader.line().and_then(number).map_or(0, i64::from)
+    next_number(&mut reader).unwrap_or(0)
+}
+
+// The number between the next `=` and the end of its line.
+fn next_number(reader: &mut Reader<'_>) -> Option<i64>
+    ensures { result ≡ next_number (drop reader.old.place reader.old.text.now) }
+{
+    reader.key()?;
+    let word = reader.line()?;
+    number(word).map(i64::from)
 }
