@@ -3,4 +3,6 @@ mod Passings
 mod Placings
 mod Writings
 mod Sizes
+mod Places
 pub mod Readings
+mod Records

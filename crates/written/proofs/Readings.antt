@@ -116,7 +116,7 @@ states_read w k (xs ∷ xss) v h s =
     (λ i. a i ∷ (ap (read_states w (length xss)) b ∙ states_read w (k + 1) xss v (omega arith) s.2) i)
 
 -- as many values are read as were asked for
-length_values : (w : ℕ) (t : List ℕ) → length (read_values w t) ≡ w
+pub length_values : (w : ℕ) (t : List ℕ) → length (read_values w t) ≡ w
 unfolding read_values
 length_values zero t = refl
 length_values (suc w) t = ap suc (length_values w (after 10 t))
@@ -144,12 +144,12 @@ values_small zero t = refl
 values_small (suc w) t = and_from (small (number_in t)) (all_small (read_values w (after 10 t))) (small_or_zero (number_of 1000000 (before 10 (after 61 t))) (before 10 (after 61 t)) refl) (values_small w (after 10 t))
 
 -- the states that are read
-shaped_read : (w n : ℕ) (t : List ℕ) → Shaped w (read_states w n t)
+pub shaped_read : (w n : ℕ) (t : List ℕ) → Shaped w (read_states w n t)
 unfolding read_states
 shaped_read w zero t = tt
 shaped_read w (suc n) t = (length_values w (after 10 t), values_small w (after 10 t), shaped_read w n (past w (after 10 t)))
 
 -- one state more
-shaped_more : (w : ℕ) (xss : List (List ℤ)) (xs : List ℤ) → Shaped w xss → length xs ≡ w → all_small xs ≡ true → Shaped w (xss ++ xs ∷ [])
+pub shaped_more : (w : ℕ) (xss : List (List ℤ)) (xs : List ℤ) → Shaped w xss → length xs ≡ w → all_small xs ≡ true → Shaped w (xss ++ xs ∷ [])
 shaped_more w [] xs s l e = (l, e, tt)
 shaped_more w (ys ∷ xss) xs s l e = (s.0, s.1, shaped_more w xss xs s.2 l e)
