@@ -14,7 +14,7 @@ use Rattle.text.specs.Decimals.{number_of}
 use Rattle.text.proofs.Numbers.{number_some, number_is}
 use Rattle.record.specs.Rules.{small, all_small, look_at, within}
 use Rattle.written.proofs.Sizes.{small_abs}
-use Rattle.written.specs.Reading.{past, number_in, read_values, read_states}
+use Rattle.written.specs.Reading.{past, number_in, read_values, read_states, Shaped, ReadsBack}
 use Rattle.written.specs.Writing.{state_line, value_line, value_lines, state_text, writing_from, writing}
 
 -- the decimal digits, as the library's lemmas take them
@@ -98,11 +98,6 @@ values_past j (x ∷ xs) t h s =
     let b = ap (after 10) (append_assoc (value_line j x) (value_lines (j + 1) xs) t) ∙ value_past j x (value_lines (j + 1) xs ++ t) (omega arith) (small_abs x p.0) in
     ap (past (length xs)) b ∙ values_past (j + 1) xs t (omega arith) p.1
 
--- each state has the width, and values that may be recorded
-abbrev pub Shaped : ℕ → List (List ℤ) → Type 0
-Shaped w [] = Unit {0}
-Shaped w (xs ∷ xss) = (length xs ≡ w) × (all_small xs ≡ true) × Shaped w xss
-
 -- the states of a record are read back from its text
 pub states_read : (w k : ℕ) (xss : List (List ℤ)) → w ≤ 16 → k + length xss < 2 ^ 64 → Shaped w xss → read_states w (length xss) (writing_from k xss) ≡ xss
 unfolding read_states writing_from
@@ -114,6 +109,10 @@ states_read w k (xs ∷ xss) v h s =
     let a : read_values w (after 10 (state_text k xs ++ t)) ≡ xs = (λ i. read_values (sym s.0 i) (e i)) ∙ values_read 0 xs t (omega arith) s.1 in
     let b : past w (after 10 (state_text k xs ++ t)) ≡ t = (λ i. past (sym s.0 i) (e i)) ∙ values_past 0 xs t (omega arith) s.1 in
     (λ i. a i ∷ (ap (read_states w (length xss)) b ∙ states_read w (k + 1) xss v (omega arith) s.2) i)
+
+-- the law of a text
+pub reads_back : ReadsBack
+reads_back w xss v h s = states_read w 0 xss v.1 (omega arith) s
 
 -- as many values are read as were asked for
 pub length_values : (w : ℕ) (t : List ℕ) → length (read_values w t) ≡ w

@@ -1,12 +1,18 @@
 // A record as text in lent bytes.
 ghost use Rattle.std.specs.Prelude.{◌≡◌, ◌+◌, ◌*◌, ◌≤◌, length, take, pos, slice_index_or};
 ghost use Rattle.record.specs.Rules.{Allowed};
-ghost use Rattle.written.specs.Reading.{read_states};
+ghost use Rattle.written.specs.Reading.{ReadsBack, read_states};
 ghost use Rattle.written.specs.Writing.{capacity_of, state_bytes, writing};
 
 use crate::lines::put_state;
 use crate::reading::number_at;
 use record::{MOST_STATES, Recorder, all_small, allowed_width};
+
+// The most bytes of the line with a state's number: those of `state=65534` and of the line's end.
+const NUMBER_LINE: usize = 12;
+
+// The most bytes of the line with a value: those of `v15=-1000000` and of the line's end.
+const VALUE_LINE: usize = 13;
 
 // A recorder that writes each state's text right behind the last one's, and reads values back from there.
 #[derive(Drop)]
@@ -27,7 +33,7 @@ pub struct TextRecorder<'a> {
 }
 
 impl<'a> TextRecorder<'a> {
-    // A recorder over the whole slice, of any length, started with width 1.
+    // A recorder over the whole slice, of any length, started with width 1. The law says that a text tells its states.
     pub fn new(memory: &'a mut [u8]) -> TextRecorder<'a>
         ensures wide { result.width ≡ 1 }
         ensures empty { result.count ≡ 0 }
@@ -35,6 +41,7 @@ impl<'a> TextRecorder<'a> {
         ensures start { result.reach ≡ 0 }
         ensures holds { result.memory.now ≡ memory.old }
         ensures same { result.memory.ghost_name ≡ memory.entry.ghost_name }
+        ensures law { ReadsBack }
     {
         let room = capacity(memory.len(), 1);
         TextRecorder {
@@ -48,8 +55,9 @@ impl<'a> TextRecorder<'a> {
 
     // The length of the record's text, which stands at the front of the memory.
     pub fn length(&self) -> usize
-        ensures reach { result ≡ ⟦<TextRecorder<'a> as Recorder>⟧.reach self.now }
-        ensures told { result ≡ length (writing (⟦<TextRecorder<'a> as Recorder>⟧.states self.now)) }
+        ensures answer { result ≡ length (writing (⟦<TextRecorder<'a> as Recorder>⟧.states self.now)) }
+        ensures reached { result ≡ ⟦<TextRecorder<'a> as Recorder>⟧.reach self.now }
+        ensures told { take result self.now.memory.now ≡ writing (⟦<TextRecorder<'a> as Recorder>⟧.states self.now) }
     {
         self.reach
     }
@@ -60,7 +68,7 @@ fn capacity(size: usize, width: usize) -> usize
     requires { Allowed width }
     ensures { result ≡ capacity_of size width }
 {
-    (size / (12 + 13 * width)).min(MOST_STATES)
+    (size / (NUMBER_LINE + VALUE_LINE * width)).min(MOST_STATES)
 }
 
 // What a record as text means.
