@@ -6,3 +6,6 @@ mod reading;
 mod recorder;
 
 pub use crate::recorder::TextRecorder;
+
+#[cfg(test)]
+mod tests;

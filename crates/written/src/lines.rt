@@ -6,6 +6,9 @@ ghost use Rattle.written.specs.Writing.{state_line, state_text, value_line, valu
 
 use itoa::Buffer;
 
+// What ends a line.
+const LINE_END: &[u8] = b"\n";
+
 // Writes a part from place `at` on, and says the place behind it.
 fn put(bytes: &mut [u8], at: usize, part: &[u8]) -> usize
     requires { at + length part.now ≤ length bytes.old }
@@ -24,7 +27,7 @@ fn put_number(bytes: &mut [u8], at: usize, state: usize) -> usize
     let mut digits = Buffer::new();
     let at = put(bytes, at, b"state=");
     let at = put(bytes, at, digits.format(state).as_bytes());
-    put(bytes, at, b"\n")
+    put(bytes, at, LINE_END)
 }
 
 // The line with a variable's value.
@@ -37,7 +40,7 @@ fn put_value(bytes: &mut [u8], at: usize, variable: usize, value: i64) -> usize
     let at = put(bytes, at, digits.format(variable).as_bytes());
     let at = put(bytes, at, b"=");
     let at = put(bytes, at, digits.format(value).as_bytes());
-    put(bytes, at, b"\n")
+    put(bytes, at, LINE_END)
 }
 
 // The lines of a state's values.
