@@ -1,6 +1,6 @@
 -- Parts of a text that are written to their places. Assumes nothing.
 use Rattle.std.proofs.Common.{◌≡◌, ℕ, ◌+◌, ◌-◌, ◌<◌, ◌≤◌, List, [], ◌++◌, length, get_or, take, drop, refl, sym, ap, ◌∙◌, append_assoc, length-append, arith}
-use Rattle.std.proofs.lemmas.List.{append-nil, drop-drop, get_or-take, get_or-drop, length-take-le, take_at, drop_at, get_or_append_left}
+use Rattle.std.proofs.lemmas.List.{append-nil, drop-drop, get_or-take, get_or-drop, length-take-le, get_or_append_left}
 use borrow.Rule.Slice.PartMut.{put_mid}
 use Rattle.std.proofs.lemmas.Slice.{take-put_mid, drop-put_mid}
 use Rattle.written.specs.Placing.{Placed}

@@ -1,21 +1,18 @@
 -- What is written is read back. Assumes nothing.
-use Rattle.std.proofs.Common.{◌≡◌, ℕ, zero, suc, ◌+◌, ◌*◌, ◌^◌, ◌<◌, ◌≤◌, true, cond, List, [], ◌∷◌, ◌++◌, length, ℤ, pos, negsuc, nat_abs, Some, None, Option, codes, decimal, unwrap_or, refl, sym, ap, subst, ◌∙◌, append_assoc, length-append, add-mul, add-one, add-zero, zero-add, arith}
+use Rattle.std.proofs.Common.{◌≡◌, ℕ, zero, suc, ◌+◌, ◌^◌, ◌<◌, ◌≤◌, true, List, [], ◌∷◌, ◌++◌, length, ℤ, pos, negsuc, nat_abs, Some, None, Option, codes, decimal, unwrap_or, refl, sym, ap, subst, ◌∙◌, append_assoc, arith}
 use Rattle.std.specs.Fmt.{signed_decimal}
 use Rattle.std.specs.Int.{IsInRange}
-use Rattle.std.specs.List.{slice_get}
 use Rattle.std.specs.Str.Parse.{AllDigits, digits_value}
 use Rattle.std.proofs.lemmas.Bool.{and_parts, and_from, eq-eqb, ne_eqb}
 use Rattle.std.proofs.lemmas.Fmt.{digits_decimal}
-use Rattle.std.proofs.lemmas.List.{append-nil}
-use Rattle.std.proofs.lemmas.Option.{slice_get_past}
 use Rattle.std.proofs.lemmas.Str.Parse.{IsNumeralModel, numerals_by_value, tells_digits}
 use Rattle.text.specs.Cut.{before, after}
 use Rattle.text.specs.Decimals.{number_of}
 use Rattle.text.proofs.Numbers.{number_some, number_is}
-use Rattle.record.specs.Rules.{small, all_small, look_at, within}
+use Rattle.record.specs.Rules.{small, all_small}
 use Rattle.written.proofs.Sizes.{small_abs}
 use Rattle.written.specs.Reading.{past, number_in, read_values, read_states, Shaped, ReadsBack}
-use Rattle.written.specs.Writing.{state_line, value_line, value_lines, state_text, writing_from, writing}
+use Rattle.written.specs.Writing.{state_line, value_line, value_lines, state_text, writing_from}
 
 -- the decimal digits, as the library's lemmas take them
 own : IsNumeralModel (AllDigits 10) (digits_value 10)

@@ -1,9 +1,8 @@
 -- The text of a record, and that of one state more. Assumes nothing.
-use Rattle.std.proofs.Common.{◌≡◌, ℕ, ◌+◌, ◌*◌, ◌<◌, ◌≤◌, true, List, [], ◌∷◌, ◌++◌, length, take, ℤ, refl, sym, ap, ◌∙◌, length-append, arith}
+use Rattle.std.proofs.Common.{◌≡◌, ℕ, ◌+◌, ◌<◌, ◌≤◌, true, List, [], ◌∷◌, ◌++◌, length, ℤ, sym, ap, ◌∙◌, length-append, arith}
 use Rattle.record.specs.Rules.{all_small}
 use Rattle.written.specs.Reading.{read_states}
-use Rattle.written.specs.Writing.{state_text, writing, state_bytes}
-use Rattle.written.specs.Placing.{Placed}
+use Rattle.written.specs.Writing.{state_text, writing}
 use Rattle.written.proofs.Readings.{states_read, length_states, shaped_read, shaped_more, none_read}
 use Rattle.written.proofs.Writings.{writing_none, writing_more}
 

@@ -5,16 +5,17 @@ use record::Recorder;
 // A byte less than a state's has no room, and neither has no byte at all.
 #[test]
 fn short_memory(rt: HostRuntime) {
-    let mut memory = [0u8; 220];
-    let mut recorder = TextRecorder::new(&mut memory[..24]);
+    let mut none = [0u8; 0];
+    let mut narrow = [0u8; 24];
+    let mut wide = [0u8; 219];
+    assert_eq!(rt; TextRecorder::new(&mut none).room(), 0);
+    let mut recorder = TextRecorder::new(&mut narrow);
     assert_eq!(rt; recorder.room(), 0);
     assert!(rt; !recorder.take(&[0]));
-    assert_eq!(rt; TextRecorder::new(&mut memory[..25]).room(), 1);
-    let mut recorder = TextRecorder::new(&mut memory[..219]);
+    let mut recorder = TextRecorder::new(&mut wide);
     assert!(rt; recorder.start(16));
     assert_eq!(rt; recorder.room(), 0);
     assert!(rt; !recorder.take(&[0; 16]));
-    assert_eq!(rt; TextRecorder::new(&mut []).room(), 0);
 }
 
 // A state of 16 of the longest values fits where there is room for one.

@@ -1,5 +1,5 @@
 -- The line's parts stand one behind the other.
-use Rattle.std.proofs.Common.{[], ◌∷◌, ◌++◌, sym, ap, ◌∙◌, codes, decimal}
+use Rattle.std.proofs.Common.{[], ◌∷◌, ◌++◌, ◌∙◌, codes, decimal}
 use Rattle.written.proofs.Placings.{placed_then, placed_as}
 use Rattle.written.proofs.lines.put_number.Goals as goal
 

@@ -1,7 +1,6 @@
 -- Each turn writes the next value's line behind the others.
-use Rattle.std.proofs.Common.{ℤ, ◌≡◌, ◌++◌, length, take, get_or, pos, sym, ap, ◌∙◌, w64, to_z, of_z, FitsSigned, rules, arith}
+use Rattle.std.proofs.Common.{ℤ, ◌++◌, length, take, get_or, pos, sym, ap, ◌∙◌, w64, to_z, of_z, FitsSigned, rules, arith}
 use Rattle.std.proofs.lemmas.Int.{to_z-of_z}
-use Rattle.std.proofs.lemmas.List.{take_all}
 use Rattle.written.specs.Writing.{value_line, value_lines}
 use Rattle.written.proofs.Writings.{values_none, values_more, value_fits}
 use Rattle.written.proofs.Placings.{placed_none, placed_then, placed_as}

@@ -16,8 +16,7 @@ loop-preserved c =
     let r = c.loop.reader in
     let l = c.loop.invariant in
     let q = c.line.new.self.place in
-    let passed = line_passed r.text r.place q c.line.result c.line.ensures.cases in
-    (
+    let passed = line_passed r.text r.place q c.line.result c.line.ensures.cases in (
       ap (λ (s : Bor (List ℕ)). s.now) c.line.ensures.text ∙ l.0,
       ap (drop q) (sym l.0) ∙ passed ∙ ap (λ (t : List ℕ). after 10 (drop r.place t)) l.0 ∙ ap (after 10) l.1 ∙ past_more c.loop.counter c.args.text.now,
     )

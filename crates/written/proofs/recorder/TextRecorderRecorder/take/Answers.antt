@@ -1,5 +1,5 @@
 -- The state's text has the bytes that are kept for it, and stands behind the others.
-use Rattle.std.proofs.Common.{ℕ, ℤ, ◌≡◌, ◌+◌, ◌-◌, ◌*◌, ◌<◌, ◌≤◌, true, length, take, pos, sym, ap, ◌∙◌, arith, rules}
+use Rattle.std.proofs.Common.{ℕ, ◌≡◌, length, take, pos, sym, ap, arith, rules}
 use Rattle.written.specs.Writing.{capacity_of}
 use Rattle.written.proofs.Sizes.{text_short, text_fits, next_state, next_fits}
 use Rattle.written.proofs.Placings.{byte_ahead, byte_behind}
