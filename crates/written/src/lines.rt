@@ -1,6 +1,5 @@
 // Writes the text of a state to its place.
-ghost use Rattle.std.specs.Prelude.{◌≡◌, ◌+◌, ◌≤◌, true, length};
-ghost use Rattle.record.specs.Rules.{all_small};
+ghost use Rattle.std.specs.Prelude.{◌+◌, ◌≤◌, length};
 ghost use Rattle.written.specs.Placing.{Placed};
 ghost use Rattle.written.specs.Writing.{state_line, state_text, value_line, value_lines};
 

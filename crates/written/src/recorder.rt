@@ -58,6 +58,7 @@ impl<'a> TextRecorder<'a> {
         ensures answer { result ≡ length (writing (⟦<TextRecorder<'a> as Recorder>⟧.states self.now)) }
         ensures reached { result ≡ ⟦<TextRecorder<'a> as Recorder>⟧.reach self.now }
         ensures told { take result self.now.memory.now ≡ writing (⟦<TextRecorder<'a> as Recorder>⟧.states self.now) }
+        ensures short { result ≤ length (⟦<TextRecorder<'a> as Recorder>⟧.states self.now) * state_bytes (⟦<TextRecorder<'a> as Recorder>⟧.breadth self.now) }
     {
         self.reach
     }
