@@ -1,6 +1,6 @@
 -- Lemmas that the proofs of this crate use, and those of its users.
 mod Passings
-mod Placings
+pub mod Placings
 mod Writings
 mod Sizes
 mod Places

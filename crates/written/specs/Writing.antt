@@ -3,9 +3,13 @@ use Rattle.std.specs.Prelude.{ℕ, ◌+◌, ◌*◌, ◌/◌, List, [], ◌∷�
 use Rattle.std.specs.Fmt.{signed_decimal}
 use Rattle.record.specs.Rules.{cut}
 
--- the line `state=K`; the byte 10 ends it
+-- a line with a key, which has its `=`, and a number; the byte 10 ends it
+abbrev pub number_line : List ℕ → ℕ → List ℕ
+number_line key n = key ++ decimal n ++ 10 ∷ []
+
+-- the line `state=K`
 abbrev pub state_line : ℕ → List ℕ
-state_line k = codes "state=" ++ decimal k ++ 10 ∷ []
+state_line k = number_line (codes "state=") k
 
 -- the line `vJ=X`
 abbrev pub value_line : ℕ → ℤ → List ℕ

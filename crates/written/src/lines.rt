@@ -1,7 +1,7 @@
-// Writes the text of a state to its place.
+// Writes parts of a text to their places: lines with a number, and the text of a state.
 ghost use Rattle.std.specs.Prelude.{◌+◌, ◌≤◌, length};
 ghost use Rattle.written.specs.Placing.{Placed};
-ghost use Rattle.written.specs.Writing.{state_line, state_text, value_line, value_lines};
+ghost use Rattle.written.specs.Writing.{number_line, state_text, value_line, value_lines};
 
 use itoa::Buffer;
 
@@ -9,7 +9,7 @@ use itoa::Buffer;
 const LINE_END: &[u8] = b"\n";
 
 // Writes a part from place `at` on, and says the place behind it.
-fn put(bytes: &mut [u8], at: usize, part: &[u8]) -> usize
+pub fn put(bytes: &mut [u8], at: usize, part: &[u8]) -> usize
     requires { at + length part.now ≤ length bytes.old }
     ensures { Placed part.now at bytes.old result bytes.new }
 {
@@ -18,14 +18,14 @@ fn put(bytes: &mut [u8], at: usize, part: &[u8]) -> usize
     end
 }
 
-// The line with a state's number.
-fn put_number(bytes: &mut [u8], at: usize, state: usize) -> usize
-    requires { at + length (state_line state) ≤ length bytes.old }
-    ensures { Placed (state_line state) at bytes.old result bytes.new }
+// A line with a key, which has its `=`, and a number.
+pub fn put_line(bytes: &mut [u8], at: usize, key: &[u8], number: usize) -> usize
+    requires { at + length (number_line key.now number) ≤ length bytes.old }
+    ensures { Placed (number_line key.now number) at bytes.old result bytes.new }
 {
     let mut digits = Buffer::new();
-    let at = put(bytes, at, b"state=");
-    let at = put(bytes, at, digits.format(state).as_bytes());
+    let at = put(bytes, at, key);
+    let at = put(bytes, at, digits.format(number).as_bytes());
     put(bytes, at, LINE_END)
 }
 
@@ -59,6 +59,6 @@ pub fn put_state(bytes: &mut [u8], at: usize, state: usize, values: &[i64]) -> u
     requires { at + length (state_text state values.now) ≤ length bytes.old }
     ensures { Placed (state_text state values.now) at bytes.old result bytes.new }
 {
-    let at = put_number(bytes, at, state);
+    let at = put_line(bytes, at, b"state=", state);
     put_values(bytes, at, values)
 }
