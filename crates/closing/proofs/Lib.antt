@@ -1,3 +1,2 @@
 -- Lemmas that the proofs of this crate use.
 mod Lengths
-mod Fronts
