@@ -6,7 +6,7 @@ use crate::parts::{put_advanced, put_not_loaded};
 use calls::{NotAdvanced, NotLoaded, Progress};
 use written::put;
 
-// No closing lines have more bytes: at most three numbers of 20 digits, and 21 bytes beside.
+// No closing lines have more bytes, as no number has more than 20 digits.
 const MOST: usize = 81;
 
 // What is to be told at the end: that a text was not loaded, or what the last advance answered.
@@ -19,6 +19,7 @@ pub enum Closing {
 }
 
 // Writes the closing lines to the front of the bytes, and says their length; 0 with nothing written where they do not fit.
+// A denied advance has no lines: the answer is 0 then, too, and nothing is written.
 pub fn closing_lines(closing: Closing, bytes: &mut [u8]) -> usize
     ensures answer { result ≡ (if nat_le (length (lines closing)) (length bytes.old) then length (lines closing) else 0) }
     ensures written { bytes.new ≡ (if nat_le (length (lines closing)) (length bytes.old) then lines closing ++ drop (length (lines closing)) bytes.old else bytes.old) }

@@ -20,33 +20,41 @@ fn stopped(stop: Stop) -> Closing {
 // A run without a stop.
 #[test]
 fn runs(rt: HostRuntime) {
-    let most = usize::MAX;
-    let finished = Closing::Advanced(Ok(Progress::Finished(most)));
+    let finished = Closing::Advanced(Ok(Progress::Finished(usize::MAX)));
+    let open = Closing::Advanced(Ok(Progress::Open(0)));
     let full = Closing::Advanced(Err(NotAdvanced::Full(65_535)));
     assert!(rt; says(finished, b"verdict=finished\nstates=18446744073709551615\n"));
-    assert!(rt; says(Closing::Advanced(Ok(Progress::Open(0))), b"verdict=open\nstates=0\n"));
+    assert!(rt; says(open, b"verdict=open\nstates=0\n"));
     assert!(rt; says(full, b"verdict=full\nstates=65535\n"));
 }
 
 // A run that met a stop.
 #[test]
 fn stops(rt: HostRuntime) {
-    let contradiction = stopped(Stop::Contradiction(65_535));
+    let statement = stopped(Stop::Contradiction(450));
     let variable = stopped(Stop::Undetermined(LeftOpen::Variable(12)));
     let end = stopped(Stop::Undetermined(LeftOpen::End));
-    assert!(rt; says(contradiction, b"verdict=contradiction\nstates=7\nstatement=65535\n"));
+    let crowded = stopped(Stop::Crowded);
+    assert!(rt;
+        says(
+            statement,
+            b"verdict=contradiction\nstates=7\nstatement=450\n"
+        )
+    );
     assert!(rt; says(variable, b"verdict=undetermined\nstates=7\nvariable=12\n"));
     assert!(rt; says(end, b"verdict=undetermined\nstates=7\nvariable=99\n"));
-    assert!(rt; says(stopped(Stop::Crowded), b"verdict=crowded\nstates=7\n"));
+    assert!(rt; says(crowded, b"verdict=crowded\nstates=7\n"));
 }
 
 // A text that is not loaded, and an advance that is denied.
 #[test]
 fn no_runs(rt: HostRuntime) {
-    let refused = NotLoaded::Refused(Refusal::Line(1041, Fault::Number(3)));
+    let fault = Refusal::Line(1041, Fault::Number(3));
+    let refused = Closing::NotLoaded(NotLoaded::Refused(fault));
+    let unread = Closing::NotLoaded(NotLoaded::RunIsOpen);
     let denied = Closing::Advanced(Err(NotAdvanced::Denied(Denial::NoRunIsOpen)));
-    assert!(rt; says(Closing::NotLoaded(refused), b"refused=8\nline=1041\nword=3\n"));
-    assert!(rt; says(Closing::NotLoaded(NotLoaded::RunIsOpen), b"refused=20\nline=0\nword=0\n"));
+    assert!(rt; says(refused, b"refused=8\nline=1041\nword=3\n"));
+    assert!(rt; says(unread, b"refused=20\nline=0\nword=0\n"));
     assert!(rt; says(denied, b""));
 }
 

@@ -7,7 +7,7 @@ use Rattle.closing.proofs.parts.put_standing.Goals as goal
 
 pub put_line-requires : goal.put_line-requires
 put_line-requires c =
-    let l = line_short (codes "states=") c.args.states c.ranges.states.fits in
+    let l = line_short (codes "states=") c.args.states c.ranges.states in
     omega (arith, l, c.requires, c.put-at.ensures.end, c.put-at-2.ensures.end, c.put-at-3.ensures.end, c.put-at.auto.bytes, c.put-at-2.auto.bytes, c.put-at-3.auto.bytes)
 
 pub returns-clause-placed : goal.returns-clause-placed
@@ -21,5 +21,5 @@ returns-clause-placed c =
 
 pub returns-clause-within : goal.returns-clause-within
 returns-clause-within c =
-    let l = line_short (codes "states=") c.args.states c.ranges.states.fits in
+    let l = line_short (codes "states=") c.args.states c.ranges.states in
     omega (arith, l, c.requires, c.put-at.ensures.end, c.put-at-2.ensures.end, c.put-at-3.ensures.end, c.put_line.ensures.end)

@@ -1,5 +1,5 @@
 -- The third line stands behind the two of the verdict.
-use Rattle.std.proofs.Common.{◌≡◌, ℕ, ◌++◌, Fits, w64, sym, ap, ◌∙◌, codes, arith, rules}
+use Rattle.std.proofs.Common.{◌≡◌, ℕ, ◌++◌, sym, ap, ◌∙◌, codes, arith, rules}
 use Rattle.meaning.specs.Runs.{open_number}
 use Rattle.written.specs.Writing.{number_line}
 use Rattle.written.proofs.Placings.{placed_then, placed_as}
@@ -8,14 +8,10 @@ use Rattle.closing.proofs.Lengths.{line_short}
 use Rattle.closing.proofs.parts.put_stopped.Goals as goal
 
 pub put_line-requires : goal.put_line-requires
-put_line-requires c =
-    let f : Fits w64 c.from.result = search rules in
-    omega (arith, c.requires.long, line_short (codes "statement=") c.from.result f.fits, c.put_standing-at.ensures.within, c.put_standing-at.auto.bytes)
+put_line-requires c = omega (arith, c.requires.long, line_short (codes "statement=") c.from.result (search rules), c.put_standing-at.ensures.within, c.put_standing-at.auto.bytes)
 
 pub put_line-requires-in-Undetermined : goal.put_line-requires-in-Undetermined
-put_line-requires-in-Undetermined c =
-    let f : Fits w64 c.from-in-Undetermined.result = search rules in
-    omega (arith, c.requires.long, line_short (codes "variable=") c.from-in-Undetermined.result f.fits, c.put_standing-at-in-Undetermined.ensures.within, c.put_standing-at-in-Undetermined.auto.bytes)
+put_line-requires-in-Undetermined c = omega (arith, c.requires.long, line_short (codes "variable=") c.from-in-Undetermined.result (search rules), c.put_standing-at-in-Undetermined.ensures.within, c.put_standing-at-in-Undetermined.auto.bytes)
 
 pub returns-in-Contradiction-clause-placed : goal.returns-in-Contradiction-clause-placed
 returns-in-Contradiction-clause-placed c =
@@ -27,9 +23,7 @@ returns-in-Contradiction-clause-placed c =
     placed_as _ (stopped k c.args.cause.stop) _ _ _ _ (ap (λ (n : ℕ). stand ++ number_line key n) number ∙ ap (stopped k) (sym c.in-Contradiction.is)) both
 
 pub returns-in-Contradiction-clause-within : goal.returns-in-Contradiction-clause-within
-returns-in-Contradiction-clause-within c =
-    let f : Fits w64 c.from.result = search rules in
-    omega (arith, line_short (codes "statement=") c.from.result f.fits, c.put_standing-at.ensures.within, c.put_line.ensures.end)
+returns-in-Contradiction-clause-within c = omega (arith, line_short (codes "statement=") c.from.result (search rules), c.put_standing-at.ensures.within, c.put_line.ensures.end)
 
 pub returns-in-Undetermined-clause-placed : goal.returns-in-Undetermined-clause-placed
 returns-in-Undetermined-clause-placed c =
@@ -41,6 +35,4 @@ returns-in-Undetermined-clause-placed c =
     placed_as _ (stopped k c.args.cause.stop) _ _ _ _ (ap (λ (n : ℕ). stand ++ number_line key n) number ∙ ap (stopped k) (sym c.in-Undetermined.is)) both
 
 pub returns-in-Undetermined-clause-within : goal.returns-in-Undetermined-clause-within
-returns-in-Undetermined-clause-within c =
-    let f : Fits w64 c.from-in-Undetermined.result = search rules in
-    omega (arith, line_short (codes "variable=") c.from-in-Undetermined.result f.fits, c.put_standing-at-in-Undetermined.ensures.within, c.put_line-in-Undetermined.ensures.end)
+returns-in-Undetermined-clause-within c = omega (arith, line_short (codes "variable=") c.from-in-Undetermined.result (search rules), c.put_standing-at-in-Undetermined.ensures.within, c.put_line-in-Undetermined.ensures.end)
