@@ -12,7 +12,7 @@ use Rattle.calls.specs.declared.parts.Progress.TheVariants.{Open, Finished}
 use Rattle.written.specs.Writing.{number_line}
 use Rattle.closing.specs.declared.closing.Closing.{Closing}
 
--- a text that is not loaded: `refused=`, `line=` and `word=`, each with its published number
+-- a text that is not loaded: `refused=` with its published number, then `line=` and `word=` with what is meant, or 0
 abbrev pub not_loaded : NotLoaded → List ℕ
 not_loaded x = number_line (codes "refused=") (text_number x) ++ number_line (codes "line=") (text_line x) ++ number_line (codes "word=") (text_word x)
 

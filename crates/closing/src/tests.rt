@@ -31,16 +31,11 @@ fn runs(rt: HostRuntime) {
 // A run that met a stop.
 #[test]
 fn stops(rt: HostRuntime) {
-    let statement = stopped(Stop::Contradiction(450));
+    let met = stopped(Stop::Contradiction(45));
     let variable = stopped(Stop::Undetermined(LeftOpen::Variable(12)));
     let end = stopped(Stop::Undetermined(LeftOpen::End));
     let crowded = stopped(Stop::Crowded);
-    assert!(rt;
-        says(
-            statement,
-            b"verdict=contradiction\nstates=7\nstatement=450\n"
-        )
-    );
+    assert!(rt; says(met, b"verdict=contradiction\nstates=7\nstatement=45\n"));
     assert!(rt; says(variable, b"verdict=undetermined\nstates=7\nvariable=12\n"));
     assert!(rt; says(end, b"verdict=undetermined\nstates=7\nvariable=99\n"));
     assert!(rt; says(crowded, b"verdict=crowded\nstates=7\n"));
