@@ -6,12 +6,14 @@ mod copying;
 mod filling;
 mod nowhere;
 mod owning;
+mod telling;
 
 pub use crate::constant::Constant;
 pub use crate::copying::copy_readings;
 pub use crate::filling::fill;
 pub use crate::nowhere::Nowhere;
 pub use crate::owning::keep;
+pub use crate::telling::keep_text;
 
 #[cfg(test)]
 mod tests;

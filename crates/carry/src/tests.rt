@@ -71,6 +71,16 @@ fn rests(rt: HostRuntime) {
     assert_eq!(rt; memory, [1, 2, 9, 9, 9]);
 }
 
+// The owner of bytes finds the record's text in front, and its own bytes behind it.
+#[test]
+fn texts(rt: HostRuntime) {
+    let mut memory = [b'.'; 40];
+    assert_eq!(rt; keep_text(&mut memory, &[-1, 20, 3], 2), 20);
+    assert!(rt; memory == *b"state=0\nv0=-1\nv1=20\n....................");
+    assert_eq!(rt; keep_text(&mut memory, &[4], 17), 0);
+    assert_eq!(rt; memory[0], b's');
+}
+
 // The first of two records for one place counts, and records outside the ranges never do.
 #[test]
 fn lists(rt: HostRuntime) {

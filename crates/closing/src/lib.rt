@@ -1,0 +1,10 @@
+// Writes the lines that close the print of a run.
+#![tactic(auto)]
+
+mod closing;
+mod parts;
+
+pub use crate::closing::{Closing, closing_lines};
+
+#[cfg(test)]
+mod tests;
