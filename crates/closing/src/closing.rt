@@ -1,5 +1,5 @@
 // What is to be told at the end, and its lines in the caller's bytes.
-ghost use Rattle.std.specs.Prelude.{◌≡◌, ◌++◌, if◌then◌else◌, drop, length, nat_le};
+ghost use Rattle.std.specs.Prelude.{◌≡◌, ◌++◌, ◌≤◌, if◌then◌else◌, drop, length, nat_le};
 ghost use Rattle.closing.specs.Lines.{lines};
 
 use crate::parts::{put_advanced, put_not_loaded};
@@ -7,7 +7,7 @@ use calls::{NotAdvanced, NotLoaded, Progress};
 use written::put;
 
 // No closing lines have more bytes, as no number has more than 20 digits.
-const MOST: usize = 81;
+pub const MOST_CLOSING: usize = 81;
 
 // What is to be told at the end: that a text was not loaded, or what the last advance answered.
 #[derive(Clone, Copy, Debug, PartialEq, Eq)]
@@ -19,12 +19,13 @@ pub enum Closing {
 }
 
 // Writes the closing lines to the front of the bytes, and says their length; 0 with nothing written where they do not fit.
-// A denied advance has no lines: the answer is 0 then, too, and nothing is written.
+// A denied advance has no lines: the answer is 0 then, too, and nothing is written. `MOST_CLOSING` bytes are room for any lines.
 pub fn closing_lines(closing: Closing, bytes: &mut [u8]) -> usize
+    ensures short { length (lines closing) ≤ 81 }
     ensures answer { result ≡ (if nat_le (length (lines closing)) (length bytes.old) then length (lines closing) else 0) }
     ensures written { bytes.new ≡ (if nat_le (length (lines closing)) (length bytes.old) then lines closing ++ drop (length (lines closing)) bytes.old else bytes.old) }
 {
-    let mut lines = [0u8; MOST];
+    let mut lines = [0u8; MOST_CLOSING];
     let length = match closing {
         Closing::NotLoaded(text) => put_not_loaded(&mut lines, text),
         Closing::Advanced(answer) => put_advanced(&mut lines, answer),

@@ -4,7 +4,7 @@
 mod closing;
 mod parts;
 
-pub use crate::closing::{Closing, closing_lines};
+pub use crate::closing::{Closing, MOST_CLOSING, closing_lines};
 
 #[cfg(test)]
 mod tests;

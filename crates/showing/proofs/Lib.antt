@@ -1,2 +1,2 @@
--- Lemmas that the proofs of this crate use: no run is answered by a denial.
-pub mod Granted
+-- What comes of a text, by what its calls promise.
+mod Coming

@@ -1,15 +1,18 @@
--- Runs from their first state on, without readings. Assumes nothing.
-use Rattle.std.specs.Prelude.{◌≢◌, ℕ, length, ℤ, None, Err, Option, Result}
+-- What is shown of a text: its run from the first state on, without readings. Assumes nothing.
+use Rattle.std.specs.Prelude.{◌≡◌, ℕ, List, [], length, ℤ, None, Ok, Err, Option, Result}
 use Rattle.sheet.specs.Content.{Content}
+use Rattle.verdict.specs.declared.refusals.Refusal.{Refusal}
 use Rattle.meaning.specs.Intervals.{under}
 use Rattle.meaning.specs.Runs.{first_work}
-use Rattle.calls.specs.declared.parts.Denial.{Denial}
+use Rattle.written.specs.Writing.{capacity_of, writing}
 use Rattle.calls.specs.declared.parts.NotAdvanced.{NotAdvanced}
-use Rattle.calls.specs.declared.parts.NotAdvanced.TheVariants.{Denied}
+use Rattle.calls.specs.declared.parts.NotLoaded.TheVariants.{Refused}
 use Rattle.calls.specs.declared.parts.Progress.{Progress}
 use Rattle.calls.specs.Meant.{Standing, Recording, blank}
-use Rattle.calls.specs.Told.{Told}
+use Rattle.calls.specs.Told.{Told, told, to_advance}
 use Rattle.calls.specs.Calls.{Settled}
+use Rattle.closing.specs.declared.closing.Closing.TheVariants.{NotLoaded, Advanced}
+use Rattle.closing.specs.Lines.{lines}
 
 -- the feed without readings
 abbrev pub silence : ℕ → ℕ → Option ℤ
@@ -19,6 +22,14 @@ silence variable state = None
 abbrev pub FromTheFirst : Content → (ℕ → ℕ) → Told → Standing → Recording → Type 0
 FromTheFirst c capacity a s p = Settled (under c silence) 1000 (blank (length c.variables) (capacity (length c.variables))) (first_work c.run) a s p
 
--- an answer that is no denial
-abbrev pub NotDenied : Result Progress NotAdvanced → Type 0
-NotDenied x = (d : Denial) → x ≢ Err (Denied d)
+-- that run, into so many bytes: they begin with the text of its record, and it came to this answer
+pub record Ran (c : Content) (size : ℕ) (bytes : List ℕ) (answer : Result Progress NotAdvanced) : Type 0 where
+  pub standing : Standing
+  pub recorder : Recording
+  pub settled : FromTheFirst c (capacity_of size) (told (to_advance answer)) standing recorder
+  pub told : bytes ≡ writing recorder.states
+
+-- what is shown of a text with this verdict: the text of the record of a run of its sheet, in so many bytes, and the lines that close it; or no record, and why the text is refused
+abbrev pub Shows : Result Content Refusal → ℕ → List ℕ → List ℕ → Type 0
+Shows (Ok c) size text closing = (x : Result Progress NotAdvanced) × Ran c size text x × (closing ≡ lines (Advanced x))
+Shows (Err r) size text closing = (text ≡ []) × (closing ≡ lines (NotLoaded (Refused r)))

@@ -1,7 +1,6 @@
-// Runs sheets, and prints what comes of each.
+// Runs sheets, and shows what comes of each as text.
 #![tactic(auto)]
 
-mod answers;
 mod runner;
 
-pub use crate::runner::Runner;
+pub use crate::runner::show;

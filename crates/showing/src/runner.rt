@@ -1,84 +1,57 @@
-// The memory for runs, and one run in it.
-ghost use Rattle.std.specs.Prelude.{◌≡◌, ◌≤◌, length, vec_len};
+// Runs sheets, and shows what comes of each as text.
+ghost use Rattle.std.specs.Prelude.{◌≡◌, ◌≤◌, length, take};
+ghost use Rattle.record.specs.Owned.{LeavesOwner};
 ghost use Rattle.calls.specs.Meant.{idle, recording};
 ghost use Rattle.calls.specs.Told.{told, to_advance};
 ghost use Rattle.engine.specs.Held.{meant};
-ghost use Rattle.showing.specs.Whole.{FromTheFirst, NotDenied};
+ghost use Rattle.verdict.specs.Verdict.{verdict};
+ghost use Rattle.showing.specs.Whole.{FromTheFirst, Ran, Shows};
 
-use crate::answers::{show_refusal, show_run};
+use closing::{Closing, closing_lines};
 use engine::{Engine, NotAdvanced, Progress};
 use feed::Silent;
-use record::{Recorder, TableRecorder};
-use std::alloc::{AllocError, Global};
-use std::io;
+use record::Recorder;
+use written::TextRecorder;
 
 // The states that a run is asked for.
 const STATES: usize = 1000;
-
-// The most bytes that the record of a run has as a text.
-const TEXT: usize = 65_536;
-
-// The most bytes of a state in that text: of its own line, and of a line for each variable.
-const STATE_LINE: usize = 12;
-
-const VARIABLE_LINE: usize = 13;
-
-// No table has more numbers than there are lines of variables in the text.
-const MOST_NUMBERS: usize = TEXT / VARIABLE_LINE;
-
-// Runs one sheet after the other, in memory that is reserved when it is made.
-#[derive(Drop)]
-pub struct Runner {
-    engine: Engine,
-    table: Vec<i64>,
-    // The table is as long as any sheet needs.
-    ghost long: { vec_len table ≡ 5041 },
-}
-
-// How many numbers the states have that fit into the text.
-fn numbers_for(variables: usize) -> usize
-    requires few { variables ≤ 16 }
-    ensures { result ≤ 5041 }
-{
-    TEXT / (STATE_LINE + VARIABLE_LINE * variables) * variables
-}
 
 // Begins a run of the sheet that the engine holds, and advances it once, without readings.
 fn run<R: Recorder>(engine: &mut Engine, recorder: &mut R) -> Result<Progress, NotAdvanced>
     requires idle { (meant engine.old).standing ≡ idle }
     ensures whole { FromTheFirst (meant engine.old).sheet (R.capacity recorder.old) (told (to_advance result)) (meant engine.new).standing (recording R.states R.breadth R.spare recorder.new) }
-    ensures granted { NotDenied result }
+    ensures owner { LeavesOwner R.capacity R.lent R.reach R.cell recorder.old recorder.new }
 {
     engine.begin(recorder).map_err(NotAdvanced::Denied)?;
     engine.advance(STATES, &Silent, recorder)
 }
 
-// Runs the sheet that the engine holds, in a table that is as long as any sheet needs, and prints what comes of it.
-fn show_held(rt: &impl Print, engine: &mut Engine, table: &mut [i64]) -> io::Result<()>
+// Runs the sheet that the engine holds, and has its record written to the front of the bytes. Says the record's length, and what the advance answered.
+fn write_record(engine: &mut Engine, bytes: &mut [u8]) -> (usize, Result<Progress, NotAdvanced>)
     requires idle { (meant engine.old).standing ≡ idle }
-    requires long { 5041 ≤ length table.old }
+    ensures ran { Ran (meant engine.old).sheet (length bytes.old) (take result.0 bytes.new) result.1 }
 {
-    let variables = engine.sheet().tables.variables.len();
-    let mut recorder = TableRecorder::new(&mut table[..numbers_for(variables)]);
+    let mut recorder = TextRecorder::new(bytes);
     let answer = run(engine, &mut recorder);
-    show_run(rt, &recorder, answer)
+    (recorder.length(), answer)
 }
 
-impl Runner {
-    // A runner with no run open.
-    pub fn new(heap: Global) -> Result<Runner, AllocError> {
-        let engine = Engine::new(heap)?;
-        let table = vec![in heap; 0; MOST_NUMBERS]?;
-        Ok(Runner { engine, table })
-    }
-
-    // Runs the sheet that a text spells, and prints the record and how the run stands; or prints why the text is refused.
-    pub fn show(&mut self, rt: &impl Print, text: &[u8]) -> io::Result<()> {
-        // A run before this one may be open still, and is given up.
-        let _ = self.engine.abandon();
-        if let Err(refusal) = self.engine.load(text) {
-            return show_refusal(rt, refusal);
+// Runs the sheet that a text spells, without readings, and has its record and the closing lines written; or the lines that say why the text is refused.
+// Says how long the record and the lines are. A run that the engine has open is given up.
+pub fn show(
+    engine: &mut Engine,
+    text: &[u8],
+    record: &mut [u8],
+    closing: &mut [u8],
+) -> (usize, usize)
+    ensures { 81 ≤ length closing.old → Shows (verdict text.now) (length «record».old) (take result.0 «record».new) (take result.1 closing.new) }
+{
+    let _ = engine.abandon();
+    match engine.load(text) {
+        Ok(()) => {
+            let (end, answer) = write_record(engine, record);
+            (end, closing_lines(Closing::Advanced(answer), closing))
         }
-        show_held(rt, &mut self.engine, &mut self.table)
+        Err(reason) => (0, closing_lines(Closing::NotLoaded(reason), closing)),
     }
 }

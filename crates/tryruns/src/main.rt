@@ -2,17 +2,26 @@
 // In a line of the input `/`, which no sheet has, stands for byte 10.
 #![tactic(auto)]
 
-use showing::Runner;
+use closing::MOST_CLOSING;
+use engine::Engine;
+use showing::show;
 use std::io;
-use std::io::{BufRead, BufReader};
+use std::io::{BufRead, BufReader, Write};
+
+// The most bytes of a record's text.
+const RECORD: usize = 65_536;
 
 fn main(rt: HostRuntime) -> io::Result<()> {
-    let mut runner = Runner::new(rt.alloc())?;
+    let mut engine = Engine::new(rt.alloc())?;
+    let mut record = vec![in rt.alloc(); 0; RECORD]?;
+    let mut closing = [0; MOST_CLOSING];
     let input = BufReader::new(rt.alloc(), rt.stdin())?;
     for line in input.split(rt.alloc(), b'\n') {
         let mut text = line?;
         end_lines(&mut text);
-        runner.show(&rt, &text)?;
+        let (end, length) = show(&mut engine, &text, &mut record, &mut closing);
+        rt.stdout().write_all(record.get(..end).unwrap_or(&[]))?;
+        rt.stdout().write_all(closing.get(..length).unwrap_or(&[]))?;
         println!(rt; "--")?;
     }
     Ok(())
