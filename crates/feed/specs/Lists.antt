@@ -1,5 +1,5 @@
 -- What a list of records reads, and the order of its records. Assumes nothing.
-use Rattle.std.specs.Prelude.{ℕ, Bool, ◌&&◌, List, ℤ, Option, ◌==◌}
+use Rattle.std.specs.Prelude.{ℕ, ◌+◌, ◌*◌, min, Bool, ◌&&◌, List, ℤ, Option, ◌==◌}
 use Rattle.std.specs.List.{find}
 use Rattle.std.specs.Option.{option_map}
 use Rattle.feed.specs.declared.list.Reading.{Reading}
@@ -16,3 +16,11 @@ first rs variable state = option_map (λ (r : Reading). r.number) (find (matches
 -- what a list of records reads: the first record counts, and one outside the ranges never does
 abbrev pub listed : List Reading → ℕ → ℕ → Option ℤ
 listed rs variable state = in_range variable state (first rs variable state)
+
+-- where a variable and a state stand in the order of states, and of variables in a state; all variables above 15 count alike
+abbrev pub ranked : ℕ → ℕ → ℕ
+ranked variable state = 17 * state + min variable 16
+
+-- where a record stands
+abbrev pub rank : Reading → ℕ
+rank r = ranked r.variable r.state
