@@ -22,7 +22,7 @@ module _
     (s : Sheet) (i : ℕ) (r e : Expression) (there : i < vec_len s.tables.expressions)
     (read : r ≡ get_or (vec_items s.tables.expressions) i r) (found : r ≡ e) where
   -- it stands at place i
-  stands : get_or (vec_items s.tables.expressions) i Last ≡ e
+  pub stands : get_or (vec_items s.tables.expressions) i Last ≡ e
   stands = sym (get_or_read_under (vec_items s.tables.expressions) i (vec_len s.tables.expressions) r Last read there s.tables.expressions.ok.0) ∙ found
 
   -- the place is inside

@@ -1,15 +1,18 @@
 // The number of an expression.
-ghost use Rattle.std.specs.Prelude.{◌≡◌, ℕ, ◌<◌, None, vec_len, slice_index_or};
+ghost use Rattle.std.specs.Prelude.{◌≡◌, ℕ, ◌<◌, vec_len};
 ghost use Rattle.value.specs.Claims.{worth, Total, Within};
+ghost use Rattle.value.specs.Scenes.{worth_in};
 ghost use Rattle.value.specs.Memory.{AllRight};
 
 use crate::memo::Memo;
-use crate::operate::{applied, ended, fitting, negated};
+use crate::operate::{applied, negated};
 use crate::parts::End;
+use crate::scene::{Open, Scene};
 use sheet::{Expression, Sheet};
 
 // The number of expression `number` of `sheet`, or none where it is not yet known.
 // `values` has the variables' numbers as far as they are known, and `end` says what is known of the piece's end.
+// The memory is needed for deep expressions alone.
 pub fn evaluate(
     sheet: &Sheet,
     values: &[Option<i64>],
@@ -25,49 +28,51 @@ pub fn evaluate(
     if place >= sheet.tables.expressions.len() {
         return Some(0);
     }
-    memo.seen[0..place + 1].fill(false);
-    worked(sheet, values, end, place, memo)
+    let scene = Scene { sheet, values, end };
+    match scene.at_once(place) {
+        Ok(z) => Some(z),
+        Err(Open::Unknown) => None,
+        Err(Open::Deep) => {
+            memo.seen[0..place + 1].fill(false);
+            worked(&scene, place, memo)
+        }
+    }
 }
 
-// The number of an expression that is there. An operation with an unknown operand is unknown, so the first unknown ends the whole
-// evaluation. So each number that is kept is a known one, and none is worked out twice.
-fn worked(
-    sheet: &Sheet,
-    values: &[Option<i64>],
-    end: End,
-    number: usize,
-    memo: &mut Memo,
-) -> Option<i64>
-    requires there { number < vec_len sheet.now.tables.expressions }
-    requires right { AllRight (worth sheet.now values.now end) number memo.old }
-    ensures answer { result ≡ worth sheet.now values.now end number }
-    ensures right { (n : ℕ) → AllRight (worth sheet.now values.now end) n memo.old → AllRight (worth sheet.now values.now end) n memo.new }
+// The number of an expression that is there: as it is kept, or worked out.
+#[cycle(working)]
+fn operand(scene: &Scene, number: usize, memo: &mut Memo) -> Option<i64>
+    requires there { number < vec_len scene.now.sheet.now.tables.expressions }
+    requires right { AllRight (worth_in scene.now) number memo.old }
+    ensures answer { result ≡ worth_in scene.now number }
+    ensures right { (n : ℕ) → AllRight (worth_in scene.now) n memo.old → AllRight (worth_in scene.now) n memo.new }
 {
     if memo.seen[number] {
         return Some(memo.numbers[number]);
     }
-    let z = match sheet.tables.expressions[number] {
-        Expression::Num(c) => i64::from(c),
-        Expression::Val(x) => {
-            let x = usize::from(x);
-            fitting(sheet.tables.variables[x], value_at(values, x))?
-        }
+    worked(scene, number, memo)
+}
+
+// Works out the number of an expression that is there, and keeps it where the expression has operands.
+// An operation with an unknown operand is unknown, so the first unknown ends the whole evaluation.
+// So each number that is kept is a known one, and no operation is worked out twice.
+#[cycle(working)]
+fn worked(scene: &Scene, number: usize, memo: &mut Memo) -> Option<i64>
+    requires there { number < vec_len scene.now.sheet.now.tables.expressions }
+    requires right { AllRight (worth_in scene.now) number memo.old }
+    ensures answer { result ≡ worth_in scene.now number }
+    ensures right { (n : ℕ) → AllRight (worth_in scene.now) n memo.old → AllRight (worth_in scene.now) n memo.new }
+{
+    let z = match scene.sheet.tables.expressions[number] {
         Expression::Pair(o, a, b) => {
-            let x = worked(sheet, values, end, usize::from(a), memo)?;
-            let y = worked(sheet, values, end, usize::from(b), memo)?;
+            let x = operand(scene, usize::from(a), memo)?;
+            let y = operand(scene, usize::from(b), memo)?;
             applied(o, x, y)
         }
-        Expression::Not(a) => negated(worked(sheet, values, end, usize::from(a), memo)?),
-        Expression::Last => ended(end)?,
+        Expression::Not(a) => negated(operand(scene, usize::from(a), memo)?),
+        _ => return scene.leaf(number).ok(),
     };
     memo.seen[number] = true;
     memo.numbers[number] = z;
     Some(z)
-}
-
-// The value at `x`, or none past the end.
-fn value_at(values: &[Option<i64>], x: usize) -> Option<i64>
-    ensures { result ≡ slice_index_or values.now x None }
-{
-    values.get(x).copied().flatten()
 }

@@ -5,6 +5,7 @@ mod evaluation;
 mod memo;
 mod operate;
 mod parts;
+mod scene;
 
 pub use crate::evaluation::evaluate;
 pub use crate::memo::Memo;

@@ -1,0 +1,83 @@
+-- Each expression's operands are lower, and what is known of them gives what is known of it. So what is kept for it is right.
+use Rattle.std.proofs.Common.{◌≡◌, ℕ, ℤ, Some, Option, sym, ap, ◌∙◌, refl, subst, arith, w64, to_z, of_z}
+use Rattle.sheet.specs.declared.parts.Expression.TheVariants.{Pair, Not}
+use Rattle.value.specs.Values.{apply, denied, once, twice}
+use Rattle.value.specs.Scenes.{worth_in, composed}
+use Rattle.value.specs.Memory.{AllRight}
+use Rattle.value.proofs.Telling.{result_ok-tells, composed_not}
+use Rattle.value.proofs.Working.{stands, worth-entry, worth_within, worth_kept, pair_known, filled_right}
+use Rattle.value.proofs.evaluation.+working.Goals as goal
+use Rattle.value.proofs.evaluation.+working.Goals.{worked-in-Pair+in_ok-x-in-Pair+in_ok-y-in-Pair, worked-in-Not+in_ok-operand-in-Not}
+
+pub worked-returns-in_err-x-in-Pair-clause-answer : goal.worked-returns-in_err-x-in-Pair-clause-answer
+worked-returns-in_err-x-in-Pair-clause-answer t c =
+    let g = worth_in c.args.scene.now in
+    let p = c.in-Pair in
+    c.from_residual.ensures ∙ ap (λ (y : Option ℤ). twice (apply p.o) y (g p.b)) (c.in_err-x-in-Pair.ensures.answer ∙ ap g c.from.ensures)
+    ∙ sym (worth-entry c.args.scene.now.sheet.now c.args.number c.index.result.now (Pair p.o p.a p.b) c.requires.there c.index.ensures p.is c.args.scene.now.values.now c.args.scene.now.end)
+
+pub worked-returns-in_err-y-in-Pair-clause-answer : goal.worked-returns-in_err-y-in-Pair-clause-answer
+worked-returns-in_err-y-in-Pair-clause-answer t c =
+    let g = worth_in c.args.scene.now in
+    let p = c.in-Pair in
+    c.from_residual-in_err-y-in-Pair.ensures ∙ ap (twice (apply p.o) (Some c.in_ok-x-in-Pair.x)) (c.in_err-y-in-Pair.ensures.answer ∙ ap g c.from-in-Pair.ensures)
+    ∙ ap (λ (y : Option ℤ). twice (apply p.o) y (g p.b)) (c.in_ok-x-in-Pair.ensures.answer ∙ ap g c.from.ensures)
+    ∙ sym (worth-entry c.args.scene.now.sheet.now c.args.number c.index.result.now (Pair p.o p.a p.b) c.requires.there c.index.ensures p.is c.args.scene.now.values.now c.args.scene.now.end)
+
+pub worked-applied-z-requires : goal.worked-applied-z-requires
+worked-applied-z-requires t c =
+    let s = c.args.scene.now.sheet.now in
+    let vs = c.args.scene.now.values.now in
+    let end = c.args.scene.now.end in
+    let x = c.in_ok-x-in-Pair.x in
+    let y = c.in_ok-y-in-Pair.y in
+    let i = c.from.result in
+    let j = c.from-in-Pair.result in (
+      worth_within s vs end i (Some (to_z w64 (of_z w64 x))) (worth_kept s vs end i x c.in_ok-x-in-Pair.ensures.answer),
+      worth_within s vs end j (Some (to_z w64 (of_z w64 y))) (worth_kept s vs end j y c.in_ok-y-in-Pair.ensures.answer),
+    )
+
+pub worked-returns-in_err-operand-in-Not-clause-answer : goal.worked-returns-in_err-operand-in-Not-clause-answer
+worked-returns-in_err-operand-in-Not-clause-answer t c =
+    c.from_residual-in_err-operand-in-Not.ensures ∙ ap (once denied) (c.in_err-operand-in-Not.ensures.answer ∙ ap (worth_in c.args.scene.now) c.from-in-Not.ensures)
+    ∙ sym (worth-entry c.args.scene.now.sheet.now c.args.number c.index.result.now (Not c.in-Not.a) c.requires.there c.index.ensures c.in-Not.is c.args.scene.now.values.now c.args.scene.now.end)
+
+pub worked-returns-in_default-clause-answer : goal.worked-returns-in_default-clause-answer
+worked-returns-in_default-clause-answer t c =
+    let e = c.index.result.now in
+    let at = stands c.args.scene.now.sheet.now c.args.number e e c.requires.there c.index.ensures refl in
+    let leaf = composed_not e c.in_default.not-Pair c.in_default.not-Not in
+    c.ok.ensures.value ∙ result_ok-tells (worth_in c.args.scene.now c.args.number) c.leaf.result c.leaf.ensures.told (c.leaf.ensures.deep ∙ ap composed at ∙ leaf)
+
+pub worked-returns : goal.worked-returns
+worked-returns t c =
+    let s = c.args.scene.now.sheet.now in
+    let vs = c.args.scene.now.values.now in
+    let end = c.args.scene.now.end in
+    let i = c.args.number in
+    let e = c.index.result.now in
+    let g = worth_in c.args.scene.now in
+    let m = c.match-index.memo in
+    let z = to_z w64 c.match-index.z-bits in
+    let kept = worth_kept s vs end in
+    let both : (Some z ≡ g i) × ((n : ℕ) → AllRight g n c.args.memo.now → AllRight g n m) = elim c.match-index.branch [
+      | worked-in-Pair+in_ok-x-in-Pair+in_ok-y-in-Pair w ↦
+          let p = w.in-Pair in
+          let x = w.in_ok-x-in-Pair.x in
+          let y = w.in_ok-y-in-Pair.y in
+          let f = kept w.from.result x w.in_ok-x-in-Pair.ensures.answer ∙ ap g w.from.ensures in
+          let h = kept w.from-in-Pair.result y w.in_ok-y-in-Pair.ensures.answer ∙ ap g w.from-in-Pair.ensures in (
+            ap (λ (y : ℤ). Some y) w.z-is
+                ∙ kept i w.applied-z.result (pair_known p.o (to_z w64 (of_z w64 x)) (to_z w64 (of_z w64 y)) w.applied-z.result (g p.a) (g p.b) w.applied-z.ensures f h
+                ∙ sym (worth-entry s i e (Pair p.o p.a p.b) c.requires.there c.index.ensures p.is vs end)),
+            λ n all. subst (AllRight g n) (sym w.memo-is) (w.operand-in-Pair.ensures.right n (w.operand.ensures.right n all)),
+          )
+      | worked-in-Not+in_ok-operand-in-Not w ↦
+          let f = kept w.from-in-Not.result w.in_ok-operand-in-Not.field-0 w.in_ok-operand-in-Not.ensures.answer ∙ ap g w.from-in-Not.ensures in (
+            ap (λ (y : ℤ). Some y) w.z-is
+                ∙ kept i w.negated-z.result (ap (λ (y : ℤ). Some y) w.negated-z.ensures ∙ ap (once denied) f
+                ∙ sym (worth-entry s i e (Not w.in-Not.a) c.requires.there c.index.ensures w.in-Not.is vs end)),
+            λ n all. subst (AllRight g n) (sym w.memo-is) (w.operand-in-Not.ensures.right n all),
+          )
+    ] in
+    record { answer = both.0; right = λ n all k h. filled_right g m.seen.items m.numbers.items i z k (both.1 n all k h) (omega arith) both.0 }
