@@ -4,6 +4,7 @@ ghost use Rattle.board.specs.Store.{rising};
 
 use crate::duties::DutyList;
 use crate::parts::Row;
+use crate::places::HINTS;
 use sheet::MOST_VARIABLES;
 
 // The most duties in a list, and the most spans that are held at once.
@@ -18,6 +19,8 @@ pub const MOST_SPANS: usize = 64;
 pub struct Board {
     pub(crate) values: [Option<i64>; MOST_VARIABLES],
     pub(crate) rows: Vec<Row>,
+    // for each of the last six bits of a serial, the place where the row of such a serial was last put
+    pub(crate) hints: [u8; HINTS],
     pub(crate) duties: DutyList,
     pub(crate) carried: DutyList,
     // the serial of the next span, and what it was when this state began

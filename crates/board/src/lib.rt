@@ -10,6 +10,7 @@ mod lists;
 mod making;
 mod opens;
 mod parts;
+mod places;
 mod turning;
 mod values;
 

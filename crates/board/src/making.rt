@@ -5,6 +5,7 @@ ghost use Rattle.board.specs.Held.{held};
 
 use crate::board::{Board, MOST_SPANS};
 use crate::duties::DutyList;
+use crate::places::HINTS;
 use sheet::MOST_VARIABLES;
 use std::alloc::{AllocError, Global};
 
@@ -19,6 +20,7 @@ impl Board {
         Ok(Board {
             values: [None; MOST_VARIABLES],
             rows,
+            hints: [0; HINTS],
             duties,
             carried,
             next: 0,

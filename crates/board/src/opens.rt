@@ -7,6 +7,7 @@ ghost use Rattle.board.specs.Held.{held};
 
 use crate::board::{Board, MOST_DUTIES, MOST_SPANS};
 use crate::parts::Row;
+use crate::places::hint_of;
 use meaning::{Duty, Opening, Span, Stop};
 
 impl Board {
@@ -40,6 +41,8 @@ impl Board {
         ensures { held self.new ≡ with_span opening (held self.old) }
     {
         let serial = self.next;
+        // `as` stays: the place is below 64, and `try_from` would add an error that cannot come.
+        self.hints[hint_of(serial)] = self.rows.len() as u8;
         self.rows.push_reserved(Row {
             span: Span {
                 serial,

@@ -6,6 +6,7 @@ ghost use Rattle.board.specs.Store.{kept_rows};
 
 use crate::board::Board;
 use crate::parts::Row;
+use crate::places::hint_moved;
 use meaning::Span;
 use sheet::MOST_VARIABLES;
 use value::End;
@@ -33,7 +34,9 @@ impl Board {
         self.values = [None; MOST_VARIABLES];
         std::mem::swap(&mut self.duties, &mut self.carried);
         self.carried.clear();
+        let before = self.rows.len();
         keep_rows(&mut self.rows);
+        hint_moved(&mut self.hints, &self.rows, before);
         self.base = self.next;
     }
 
