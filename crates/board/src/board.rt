@@ -1,7 +1,9 @@
 // The work of one state in memory.
-ghost use Rattle.std.specs.Prelude.{◌≡◌, ◌+◌, ◌≤◌, true, vec_len, vec_capacity};
+ghost use Rattle.std.specs.Prelude.{◌≡◌, ◌+◌, ◌≤◌, true, map, vec_len, vec_capacity};
 ghost use Rattle.board.specs.Store.{rising};
+ghost use Rattle.board.specs.Buckets.{row_in, listed};
 
+use crate::buckets::BUCKETS;
 use crate::duties::DutyList;
 use crate::parts::Row;
 use crate::places::HINTS;
@@ -21,6 +23,8 @@ pub struct Board {
     pub(crate) rows: Vec<Row>,
     // for each of the last six bits of a serial, the place where the row of such a serial was last put
     pub(crate) hints: [u8; HINTS],
+    // for each bucket, the place of the row of the span that was opened last with what follows it in this bucket
+    pub(crate) openings: [u8; BUCKETS],
     pub(crate) duties: DutyList,
     pub(crate) carried: DutyList,
     // the serial of the next span, and what it was when this state began
@@ -29,5 +33,6 @@ pub struct Board {
     ghost few: { vec_len rows ≤ 64 },
     ghost room: { 64 ≤ vec_capacity rows },
     ghost ordered: { rising 0 rows.items next ≡ true },
+    ghost opened: { listed openings (map row_in rows.items) ≡ true },
     ghost counted: { (next ≤ base + vec_len rows) × (base ≤ 4200000) },
 }

@@ -3,6 +3,7 @@
 
 mod answers;
 mod board;
+mod buckets;
 mod duties;
 mod ends;
 mod known;

@@ -4,6 +4,7 @@ ghost use Rattle.meaning.specs.Runs.{begun};
 ghost use Rattle.board.specs.Held.{held};
 
 use crate::board::{Board, MOST_SPANS};
+use crate::buckets::BUCKETS;
 use crate::duties::DutyList;
 use crate::places::HINTS;
 use sheet::MOST_VARIABLES;
@@ -21,6 +22,7 @@ impl Board {
             values: [None; MOST_VARIABLES],
             rows,
             hints: [0; HINTS],
+            openings: [0; BUCKETS],
             duties,
             carried,
             next: 0,

@@ -2,6 +2,7 @@
 use Rattle.std.proofs.Common.{vec_items, vec_len}
 use Rattle.board.specs.Held.{store}
 use Rattle.board.proofs.Rows.{write_rising, write_means, placed_serial}
+use Rattle.board.proofs.Listed.{listed-set}
 use Rattle.board.proofs.board.Board.set_end.Goals as goal
 
 pub invariant_of-self : goal.invariant_of-self
@@ -11,6 +12,7 @@ invariant_of-self c =
       few = b.few;
       room = b.room;
       ordered = write_rising (vec_items b.rows) c.args.row (vec_len b.rows) b.next c.index_mut.result.now c.args.end c.index_mut.ensures.value c.requires b.rows.ok.0 b.ordered;
+      opened = listed-set b.openings (vec_items b.rows) c.args.row (vec_len b.rows) c.index_mut.result.now c.args.end c.index_mut.ensures.value c.requires b.rows.ok.0 b.opened;
       counted = b.counted;
     }
 
