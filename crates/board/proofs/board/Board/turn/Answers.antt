@@ -22,4 +22,4 @@ invariant_of-self c =
 pub returns : goal.returns
 returns c =
     let b = c.args.self.now in
-    turn_means (store b) _ _ _ b.ordered c.keep_rows.ensures.items (ap (λ v. vec_items v.list) c.swap.ensures.x_after) c.clear.ensures
+    turn_means (store b) _ _ _ _ b.ordered c.forget_values.ensures c.keep_rows.ensures.items (ap (λ v. vec_items v.list) c.swap.ensures.x_after) c.clear.ensures
