@@ -21,9 +21,9 @@ pub const MOST_SPANS: usize = 64;
 pub struct Board {
     pub(crate) values: [Option<i64>; MOST_VARIABLES],
     pub(crate) rows: Vec<Row>,
-    // for each of the last six bits of a serial, the place where the row of such a serial was last put
+    // for each value of the last six bits of a serial, the place where a row with such a serial came last
     pub(crate) hints: [u8; HINTS],
-    // for each bucket, the place of the row of the span that was opened last with what follows it in this bucket
+    // for each bucket, the place of the row whose span was the last to be opened with what follows it in that bucket
     pub(crate) openings: [u8; BUCKETS],
     pub(crate) duties: DutyList,
     pub(crate) carried: DutyList,

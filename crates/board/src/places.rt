@@ -8,8 +8,7 @@ use crate::parts::Row;
 // How many hints there are.
 pub(crate) const HINTS: usize = 64;
 
-// Which hint a serial has: spans that run together were mostly opened soon after one another, so each has one of its own.
-// Any other function of the serial would be as right.
+// Which hint a serial has. Spans that run together were mostly opened one soon after another, so mostly each has its own; any other function of the serial would be as right.
 pub(crate) fn hint_of(serial: u32) -> usize
     ensures { result ≡ serial % HINTS }
 {
@@ -31,7 +30,7 @@ pub(crate) fn hint_moved(hints: &mut [u8; HINTS], rows: &[Row], before: usize)
 }
 
 impl Board {
-    // The place of the row of the span with this serial, or none. Mostly the hint says it; the row there is asked for its serial.
+    // The place of the row of the span with this serial, or none. Mostly the hint says it: if the row there has the serial, it is the only one, since serials rise.
     pub(crate) fn place_of(&self, serial: u32) -> Option<usize>
         ensures { result ≡ position (has_serial serial) self.now.rows.items }
     {
