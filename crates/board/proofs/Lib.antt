@@ -4,4 +4,4 @@ pub mod Turned
 pub mod Alike
 pub mod Finds
 pub mod Shown
-pub mod Buckets
+pub mod Listed

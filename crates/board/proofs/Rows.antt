@@ -1,15 +1,15 @@
 -- What reading and writing the rows of a board means.
-use Rattle.std.proofs.Common.{◌≡◌, ℕ, zero, suc, ◌+◌, ◌<◌, ◌≤◌, Bool, true, false, cond, ◌&&◌, ◌==◌, eqb, ltb, leb, ◌⊎◌, List, [], ◌∷◌, ◌++◌, map, length, get_or, set, Some, None, Option, sym, refl, ap, ◌∙◌, subst, ⊎_elim, add-one, arith}
+use Rattle.std.proofs.Common.{◌≡◌, ℕ, zero, suc, ◌+◌, ◌<◌, ◌≤◌, Bool, true, false, cond, ◌&&◌, eqb, ltb, leb, ◌⊎◌, List, [], ◌∷◌, ◌++◌, map, length, get_or, set, Some, None, sym, refl, ap, ◌∙◌, subst, ⊎_elim, add-one, arith}
 use mathlib.Core.Path.{fun_ext}
 use mathlib.Core.List.{map-append}
 use lib.ListN.{length-map}
 use lib.Seq.{map-set_same}
-use Rattle.std.specs.List.{find, position, position_from}
+use Rattle.std.specs.List.{position, position_from}
 use Rattle.std.proofs.lemmas.Iterator.Adapters.{position_from-zero}
 use Rattle.std.proofs.lemmas.List.Quantifiers.{position-Some}
 use Rattle.std.proofs.lemmas.Option.{none-some}
 use Rattle.std.proofs.lemmas.List.{get_or_read_under}
-use Rattle.std.proofs.lemmas.Bool.{cond-true, cond-false, eqb-true, eq-eqb, true≢false, leb-true, le-leb, lt-ltb, le-ltb, and_parts, and_from, and_left, and_right}
+use Rattle.std.proofs.lemmas.Bool.{cond-true, cond-false, eqb-true, eq-eqb, true≢false, false_from_ne_true, leb-true, ltb-true, le-leb, lt-ltb, le-ltb, and_parts, and_from, and_left, and_right}
 use Rattle.value.specs.declared.parts.End.{End}
 use Rattle.value.specs.declared.parts.End.TheVariants.{Unknown}
 use Rattle.meaning.specs.declared.parts.Opening.{Opening}
@@ -19,7 +19,7 @@ use Rattle.meaning.specs.Work.{set_at, plain, stops, goes, has_opened}
 use Rattle.meaning.specs.Effects.{with_end, with_span, open_span}
 use Rattle.meaning.specs.Order.{◌∈◌, here, there, Lives}
 use Rattle.board.specs.declared.parts.Row.{Row}
-use Rattle.board.specs.Store.{span_of, ends_of, Store, work, rising}
+use Rattle.board.specs.Store.{span_of, has_serial, ends_of, Store, work, rising}
 
 -- what stands for a row that is not there
 abbrev pub no_row : Row
@@ -99,26 +99,53 @@ lives_past r l s n h = by h.inside
 lives_none : (s : ℕ) → Lives [] s → ⊥
 lives_none s h = elim h.inside [ ]
 
--- the row of a span, by its serial
-abbrev pub has_serial : ℕ → Row → Bool
-has_serial s r = r.span.serial == s
-
--- the end of the row that a search finds
-abbrev pub end_of_found : Option Row → End
-end_of_found None = Unknown
-end_of_found (Some r) = r.end
-
--- the first row with the serial has the end of the span
-pub found_end : (l : List Row) (s : ℕ) → end_of_found (find (has_serial s) l) ≡ ends_of l s
-found_end [] s = refl
-found_end (r ∷ l) s = by (eqb r.span.serial s) (found_end l s)
-  where
-    by : (b : Bool) → end_of_found (find (has_serial s) l) ≡ ends_of l s → end_of_found (cond b (Some r) (find (has_serial s) l)) ≡ cond b r.end (ends_of l s)
-    by true ih = refl
-    by false ih = ih
-
 pub placed_serial : (l : List Row) (s i : ℕ) → position (has_serial s) l ≡ Some i → HasSerial l i s
 placed_serial l s i p = let f = position-Some (has_serial s) l i no_row p in (f.0, eqb-true (get_or l i no_row).span.serial s f.1)
+
+-- since serials rise, the row with the serial is the one that a search finds, and has the end of the span
+later_serial : {n : ℕ} {l : List Row} → Rising (suc n) l → (i s : ℕ) → HasSerial l i s → eqb n s ≡ false
+later_serial {n} {l} t i s h = false_from_ne_true (eqb n s) (λ p. absurd (omega (arith, rising_at t i h.0, h.1, eqb-true n s p)))
+
+found_from : {n : ℕ} {l : List Row} → Rising n l → (i s k : ℕ) → HasSerial l i s → position_from (has_serial s) k l ≡ Some (k + i)
+found_from rising_nil i s k h = absurd (omega (arith, h.0))
+found_from (rising_cons {r = r} {l = l} a t) zero s k h =
+    cond-true (eqb r.span.serial s) (Some k) (position_from (has_serial s) (k + 1) l) (eq-eqb r.span.serial s h.1) ∙ ap Some (omega arith)
+found_from (rising_cons {r = r} {l = l} a t) (suc i) s k h =
+    let q : HasSerial l i s = (omega (arith, h.0), h.1) in
+    cond-false (eqb r.span.serial s) (Some k) (position_from (has_serial s) (k + 1) l) (later_serial t i s q) ∙ found_from t i s (k + 1) q ∙ ap Some (omega arith)
+
+found_serial : (l : List Row) (high i s : ℕ) → rising 0 l high ≡ true → HasSerial l i s → position (has_serial s) l ≡ Some i
+found_serial l high i s o h = position_from-zero (has_serial s) l ∙ found_from (rising_of 0 l high o) i s 0 h ∙ ap Some (omega arith)
+
+-- so is the row at a place that is read, if it has the serial
+pub found_hint : (l k : List Row) (high i s : ℕ) (r : Row) → rising 0 l high ≡ true → k ≡ l → true ≡ ltb i (length k) → r ≡ get_or k i r → r.span.serial ≡ s → Some i ≡ position (has_serial s) l
+found_hint l k high i s r o p h e q =
+    let b : i < length k = ltb-true i (length k) (sym h) in
+    let n : length k ≡ length l = ap length p in
+    let x : r ≡ get_or l i no_row = get_or_read_under k i (length k) r no_row e b refl ∙ ap (λ (z : List Row). get_or z i no_row) p in
+    sym (found_serial l high i s o (omega arith, ap (λ (z : Row). z.span.serial) (sym x) ∙ q))
+
+end_of_row : {n : ℕ} {l : List Row} → Rising n l → (i s : ℕ) → HasSerial l i s → (get_or l i no_row).end ≡ ends_of l s
+end_of_row rising_nil i s h = absurd (omega (arith, h.0))
+end_of_row (rising_cons {r = r} {l = l} a t) zero s h = sym (cond-true (eqb r.span.serial s) r.end (ends_of l s) (eq-eqb r.span.serial s h.1))
+end_of_row (rising_cons {r = r} {l = l} a t) (suc i) s h =
+    let q : HasSerial l i s = (omega (arith, h.0), h.1) in
+    end_of_row t i s q ∙ sym (cond-false (eqb r.span.serial s) r.end (ends_of l s) (later_serial t i s q))
+
+pub end_at : (l : List Row) (i n s high : ℕ) (r : Row) → r ≡ get_or l i r → i < n → n ≡ length l → rising 0 l high ≡ true → position (has_serial s) l ≡ Some i → r.end ≡ ends_of l s
+end_at l i n s high r p h k o f = ap (λ (x : Row). x.end) (get_or_read_under l i n r no_row p h k) ∙ end_of_row (rising_of 0 l high o) i s (placed_serial l s i f)
+
+-- where the search finds no row, nothing is known of the end
+unknown_from : (l : List Row) (s k : ℕ) → position_from (has_serial s) k l ≡ None → Unknown ≡ ends_of l s
+unknown_from [] s k p = refl
+unknown_from (r ∷ l) s k p = by (eqb r.span.serial s) p (unknown_from l s (k + 1))
+  where
+    by : (b : Bool) → cond b (Some k) (position_from (has_serial s) (k + 1) l) ≡ None → (position_from (has_serial s) (k + 1) l ≡ None → Unknown ≡ ends_of l s) → Unknown ≡ cond b r.end (ends_of l s)
+    by true p ih = absurd (none-some k (sym p))
+    by false p ih = ih p
+
+pub unknown_end : (l : List Row) (s : ℕ) → position (has_serial s) l ≡ None → Unknown ≡ ends_of l s
+unknown_end l s p = unknown_from l s 0 (sym (position_from-zero (has_serial s) l) ∙ p)
 
 none_from : (l : List Row) (s k : ℕ) → position_from (has_serial s) k l ≡ None → Lives (map span_of l) s → ⊥
 none_from [] s k p h = lives_none s h

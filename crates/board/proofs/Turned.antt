@@ -74,10 +74,11 @@ none_known zero x = refl
 none_known (suc n) zero = refl
 none_known (suc n) (suc x) = none_known n x
 
-pub turn_means : (m : Store) (rows : List Row) (ds ls : List Duty) → rising 0 m.rows m.next ≡ true → rows ≡ kept_rows m.rows → ds ≡ m.later → ls ≡ []
-    → work (record { values = replicate 16 None; rows = rows; duties = ds; later = ls; next = m.next }) ≡ next_work (work m)
-turn_means m rows ds ls o a b c =
-    ap (λ (x : List Row). work (record { values = replicate 16 None; rows = x; duties = ds; later = ls; next = m.next })) a
+pub turn_means : (m : Store) (values : List (Option ℤ)) (rows : List Row) (ds ls : List Duty) → rising 0 m.rows m.next ≡ true → values ≡ replicate 16 None → rows ≡ kept_rows m.rows → ds ≡ m.later → ls ≡ []
+    → work (record { values = values; rows = rows; duties = ds; later = ls; next = m.next }) ≡ next_work (work m)
+turn_means m values rows ds ls o v a b c =
+    ap (λ (x : List (Option ℤ)). work (record { values = x; rows = rows; duties = ds; later = ls; next = m.next })) v
+    ∙ ap (λ (x : List Row). work (record { values = replicate 16 None; rows = x; duties = ds; later = ls; next = m.next })) a
     ∙ ap (λ (x : List Duty). work (record { values = replicate 16 None; rows = kept_rows m.rows; duties = x; later = ls; next = m.next })) b
     ∙ ap (λ (x : List Duty). work (record { values = replicate 16 None; rows = kept_rows m.rows; duties = m.later; later = x; next = m.next })) c
     ∙ (λ j. record {
@@ -92,10 +93,11 @@ turn_means m rows ds ls o a b c =
 only_unknown : (t : ℕ) → ends_of (no_row ∷ []) t ≡ Unknown
 only_unknown t = cond_both (eqb 0 t) Unknown Unknown (λ z. z ≡ Unknown) (λ p. refl) (λ p. refl)
 
-pub begin_means : (p : ℕ) (rows : List Row) (ds ls : List Duty) → rows ≡ no_row ∷ [] → ds ≡ plain p 0 ∷ [] → ls ≡ []
-    → work (record { values = replicate 16 None; rows = rows; duties = ds; later = ls; next = 1 }) ≡ first_work p
-begin_means p rows ds ls a b c =
-    ap (λ (x : List Row). work (record { values = replicate 16 None; rows = x; duties = ds; later = ls; next = 1 })) a
+pub begin_means : (p : ℕ) (values : List (Option ℤ)) (rows : List Row) (ds ls : List Duty) → values ≡ replicate 16 None → rows ≡ no_row ∷ [] → ds ≡ plain p 0 ∷ [] → ls ≡ []
+    → work (record { values = values; rows = rows; duties = ds; later = ls; next = 1 }) ≡ first_work p
+begin_means p values rows ds ls v a b c =
+    ap (λ (x : List (Option ℤ)). work (record { values = x; rows = rows; duties = ds; later = ls; next = 1 })) v
+    ∙ ap (λ (x : List Row). work (record { values = replicate 16 None; rows = x; duties = ds; later = ls; next = 1 })) a
     ∙ ap (λ (x : List Duty). work (record { values = replicate 16 None; rows = no_row ∷ []; duties = x; later = ls; next = 1 })) b
     ∙ ap (λ (x : List Duty). work (record { values = replicate 16 None; rows = no_row ∷ []; duties = plain p 0 ∷ []; later = x; next = 1 })) c
     ∙ (λ j. record { known = fun_ext (none_known 16) j; ends = fun_ext only_unknown j; spans = span_of no_row ∷ []; duties = plain p 0 ∷ []; later = []; next = 1 })

@@ -1,16 +1,42 @@
--- The buckets in which duties are looked for. Assumes nothing.
-use Rattle.std.specs.Prelude.{ℕ, ◌+◌, ◌*◌, ◌%◌, Bool, List, length, pos, unsigned_abs, unwrap_or, nat_lt, slice_index}
+-- The buckets in which duties and openings are looked for. Assumes nothing.
+use Rattle.std.specs.Prelude.{ℕ, ◌+◌, ◌*◌, ◌%◌, Bool, true, false, if◌then◌else◌, List, Some, None, Option, ◌==◌, pos, unsigned_abs, unwrap_or, slice_index, slice_index_or}
 use Rattle.std.specs.List.{list_all}
 use Rattle.meaning.specs.declared.parts.Duty.{Duty}
+use Rattle.meaning.specs.declared.parts.Opening.{Opening}
+use Rattle.meaning.specs.declared.parts.Span.{Span}
+use Rattle.board.specs.declared.parts.Row.{Row}
 
--- the bucket of a duty, one of 256
+-- the bucket of a duty, one of 1,024
 abbrev pub bucket : Duty → ℕ
-bucket d = (d.statement * 5 + d.span * 3 + unsigned_abs (unwrap_or d.number (pos 0))) % 256
+bucket d = (d.statement * 67 + d.span * 643 + unsigned_abs (unwrap_or d.number (pos 0))) % 1024
 
--- whether the table has a place among the first n for the bucket of a duty
-abbrev pub placed : List ℕ → ℕ → Duty → Bool
-placed places n d = nat_lt (slice_index places (bucket d)) n
+-- where a duty is looked for: in its bucket
+abbrev pub duty_in : Duty → Option ℕ
+duty_in d = Some (bucket d)
 
--- whether it has such a place in a list for each duty of the list
-abbrev pub listed : List ℕ → List Duty → Bool
-listed places l = list_all (placed places (length l)) l
+-- the bucket of what follows a span that was opened so
+abbrev pub followed_in : Option Opening → Option ℕ
+followed_in None = None
+followed_in (Some g) = Some (bucket g.follower)
+
+-- where a span is looked for: in the bucket of what follows it, and only in the state that opened it
+abbrev pub opened_in : Span → Option ℕ
+opened_in t = if t.fresh then followed_in t.opening else None
+
+-- and so its row
+abbrev pub row_in : Row → Option ℕ
+row_in r = opened_in r.span
+
+-- whether something is looked for in bucket b
+abbrev pub is_in : ℕ → Option ℕ → Bool
+is_in b None = false
+is_in b (Some c) = c == b
+
+-- a table has a place of a list for each bucket: whether at the place for the bucket of an item stands an item of that bucket; l has the buckets of the items
+abbrev pub leads : List ℕ → List (Option ℕ) → Option ℕ → Bool
+leads places l None = true
+leads places l (Some b) = is_in b (slice_index_or l (slice_index places b) None)
+
+-- whether that is so for every item
+abbrev pub listed : List ℕ → List (Option ℕ) → Bool
+listed places l = list_all (leads places l) l

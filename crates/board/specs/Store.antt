@@ -11,6 +11,10 @@ use Rattle.board.specs.declared.parts.Row.{Row}
 abbrev pub span_of : Row → Span
 span_of r = r.span
 
+-- whether a row is that of the span with serial s
+abbrev pub has_serial : ℕ → Row → Bool
+has_serial s r = r.span.serial == s
+
 -- the end of the span with serial s, by the rows
 abbrev pub ends_of : List Row → ℕ → End
 ends_of [] s = Unknown

@@ -1,39 +1,25 @@
 // A list of duties.
-ghost use Rattle.std.specs.Prelude.{◌≡◌, ◌<◌, ◌≤◌, true, IfOk, [], ◌∷◌, ◌++◌, replicate, vec_len, vec_capacity};
+ghost use Rattle.std.specs.Prelude.{◌≡◌, ◌<◌, ◌≤◌, true, IfOk, [], ◌∷◌, ◌++◌, map, vec_len, vec_capacity};
 ghost use Rattle.std.specs.List.{slice_get};
 ghost use Rattle.meaning.specs.Work.{has_duty};
 ghost use Rattle.board.specs.Answers.{once, grown};
-ghost use Rattle.board.specs.Buckets.{bucket, listed};
+ghost use Rattle.board.specs.Buckets.{duty_in, listed};
 
 use crate::board::MOST_DUTIES;
+use crate::buckets::{BUCKETS, bucket};
 use meaning::{Duty, Stop};
 use std::alloc::{AllocError, Global};
-
-// How many buckets a list has.
-const BUCKETS: usize = 256;
-
-// What stands for a place in a bucket to which no duty has come: it is past every list's end.
-const NO_PLACE: u16 = MOST_DUTIES as u16;
 
 // A list of duties in the order in which they came, with a table that says quickly of most duties whether the list has them.
 #[derive(Drop)]
 pub(crate) struct DutyList {
     list: Vec<Duty>,
-    // for each bucket, the place of the duty that came to it last
-    places: [u16; BUCKETS],
+    // for each bucket, the place of the duty that came to it last; where no duty of this bucket stands there, none has come
+    places: Vec<u16>,
     ghost few: { vec_len list ≤ 512 },
     ghost room: { 512 ≤ vec_capacity list },
-    ghost listed: { listed places list.items ≡ true },
-}
-
-// The bucket of a duty. Each of its three parts counts; any other function of it would be as right.
-fn bucket(duty: &Duty) -> usize
-    ensures { result ≡ bucket duty.now }
-{
-    let number = duty.number.unwrap_or(0).unsigned_abs();
-    let sum = u64::from(duty.statement) * 5 + u64::from(duty.span) * 3 + number;
-    // `as` stays: the rest is below 256, and `try_from` would add an error that cannot come.
-    (sum % BUCKETS as u64) as usize
+    ghost whole: { vec_len places ≡ 1024 },
+    ghost listed: { listed places.items (map duty_in list.items) ≡ true },
 }
 
 impl DutyList {
@@ -42,10 +28,8 @@ impl DutyList {
         ensures { IfOk result (λ l. l.list.items ≡ []) }
     {
         let list = Vec::with_capacity(heap, MOST_DUTIES)?;
-        Ok(DutyList {
-            list,
-            places: [NO_PLACE; BUCKETS],
-        })
+        let places = vec![in heap; 0; BUCKETS]?;
+        Ok(DutyList { list, places })
     }
 
     // How many duties there are.
@@ -66,11 +50,19 @@ impl DutyList {
     pub(crate) fn has(&self, duty: &Duty) -> bool
         ensures { result ≡ has_duty duty.now self.now.list.items }
     {
-        match self.list.get(usize::from(self.places[bucket(duty)])) {
+        let own = bucket(duty);
+        match self.list.get(usize::from(self.places[own])) {
             None => false,
-            // No `contains`: `first_place` is the one search for ordered items, proved once, and this would be a second.
-            Some(last) => duty == last || search::first_place(&self.list, duty).is_some(),
+            Some(last) => duty == last || (bucket(last) == own && self.search(duty)),
         }
+    }
+
+    // The same, for which the list is searched.
+    fn search(&self, duty: &Duty) -> bool
+        ensures { result ≡ has_duty duty.now self.now.list.items }
+    {
+        // No `contains`: `first_place` is the one search for ordered items, proved once, and this would be a second.
+        search::first_place(&self.list, duty).is_some()
     }
 
     // Adds a duty, once.
@@ -98,12 +90,10 @@ impl DutyList {
         self.list.push_reserved(duty);
     }
 
-    // Drops all duties, and their places in the table.
+    // Drops all duties. The table stays as it is: what it says leads to no duty now.
     pub(crate) fn clear(&mut self)
-        ensures items { self.new.list.items ≡ [] }
-        ensures places { self.new.places ≡ replicate BUCKETS NO_PLACE }
+        ensures { self.new.list.items ≡ [] }
     {
         self.list.clear();
-        self.places = [NO_PLACE; BUCKETS];
     }
 }

@@ -1,9 +1,10 @@
 // The ends of spans.
-ghost use Rattle.std.specs.Prelude.{◌≡◌};
+ghost use Rattle.std.specs.Prelude.{◌≡◌, ◌<◌, ℕ, Some, position, vec_len};
 ghost use Rattle.meaning.specs.Order.{Lives};
 ghost use Rattle.meaning.specs.Effects.{with_end, put as putting};
 ghost use Rattle.board.specs.Answers.{told};
 ghost use Rattle.board.specs.Held.{held};
+ghost use Rattle.board.specs.Store.{has_serial};
 
 use crate::board::Board;
 use meaning::Stop;
@@ -14,10 +15,10 @@ impl Board {
     pub fn end_of(&self, serial: u32) -> End
         ensures { result ≡ (held self.now).ends serial }
     {
-        self.rows
-            .iter()
-            .find(|row| row.span.serial == serial)
-            .map_or(End::Unknown, |row| row.end)
+        match self.place_of(serial) {
+            Some(row) => self.end_at(row),
+            None => End::Unknown,
+        }
     }
 
     // Puts the end of a span that runs. A contradiction is placed at `place`.
@@ -25,9 +26,13 @@ impl Board {
         requires { Lives (held self.old).spans serial }
         ensures { told result (held self.new) ≡ putting place end serial (held self.old) }
     {
-        match (self.end_of(serial), end) {
+        let Some(row) = self.place_of(serial) else {
+            // This cannot be: a span that runs has a row.
+            return Ok(false);
+        };
+        match (self.end_at(row), end) {
             (End::Unknown, End::On | End::Last) => {
-                self.set_end(serial, end);
+                self.set_end(row, end);
                 Ok(true)
             }
             (End::On, End::Last) | (End::Last, End::On) => Err(Stop::Contradiction(place)),
@@ -35,14 +40,19 @@ impl Board {
         }
     }
 
-    // Writes the end of a span that runs.
-    fn set_end(&mut self, serial: u32, end: End)
-        requires { Lives (held self.old).spans serial }
-        ensures { held self.new ≡ with_end end serial (held self.old) }
+    // What is known of the end of the span whose row is at this place.
+    fn end_at(&self, row: usize) -> End
+        requires { row < vec_len self.now.rows }
+        ensures { (serial : ℕ) → position (has_serial serial) self.now.rows.items ≡ Some row → result ≡ (held self.now).ends serial }
     {
-        // No `iter_mut().find(..)`: tried, and the proof does not close, since of rows that are written so it knows no more than how many there are.
-        if let Some(i) = self.rows.iter().position(|row| row.span.serial == serial) {
-            self.rows[i].end = end;
-        }
+        self.rows[row].end
+    }
+
+    // Writes the end of the span whose row is at this place.
+    fn set_end(&mut self, row: usize, end: End)
+        requires { row < vec_len self.old.rows }
+        ensures { (serial : ℕ) → position (has_serial serial) self.old.rows.items ≡ Some row → held self.new ≡ with_end end serial (held self.old) }
+    {
+        self.rows[row].end = end;
     }
 }

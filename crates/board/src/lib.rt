@@ -3,6 +3,7 @@
 
 mod answers;
 mod board;
+mod buckets;
 mod duties;
 mod ends;
 mod known;
@@ -10,6 +11,7 @@ mod lists;
 mod making;
 mod opens;
 mod parts;
+mod places;
 mod turning;
 mod values;
 

@@ -4,7 +4,9 @@ ghost use Rattle.meaning.specs.Runs.{begun};
 ghost use Rattle.board.specs.Held.{held};
 
 use crate::board::{Board, MOST_SPANS};
+use crate::buckets::BUCKETS;
 use crate::duties::DutyList;
+use crate::places::HINTS;
 use sheet::MOST_VARIABLES;
 use std::alloc::{AllocError, Global};
 
@@ -19,6 +21,8 @@ impl Board {
         Ok(Board {
             values: [None; MOST_VARIABLES],
             rows,
+            hints: [0; HINTS],
+            openings: [0; BUCKETS],
             duties,
             carried,
             next: 0,

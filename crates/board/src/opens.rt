@@ -6,7 +6,9 @@ ghost use Rattle.board.specs.Answers.{told};
 ghost use Rattle.board.specs.Held.{held};
 
 use crate::board::{Board, MOST_DUTIES, MOST_SPANS};
+use crate::buckets::{bucket, opened_in};
 use crate::parts::Row;
+use crate::places::hint_of;
 use meaning::{Duty, Opening, Span, Stop};
 
 impl Board {
@@ -24,8 +26,19 @@ impl Board {
         Ok(true)
     }
 
-    // Whether a span was opened so in this state.
+    // Whether a span was opened so in this state. Mostly the bucket of what follows it says that none was.
     fn has_opened(&self, opening: Opening) -> bool
+        ensures { result ≡ has_opened opening (held self.now).spans }
+    {
+        let own = bucket(&opening.follower);
+        match self.rows.get(usize::from(self.openings[own])) {
+            None => false,
+            Some(row) => opened_in(&row.span) == Some(own) && self.search_opened(opening),
+        }
+    }
+
+    // The same, for which every row is asked.
+    fn search_opened(&self, opening: Opening) -> bool
         ensures { result ≡ has_opened opening (held self.now).spans }
     {
         self.rows
@@ -40,6 +53,10 @@ impl Board {
         ensures { held self.new ≡ with_span opening (held self.old) }
     {
         let serial = self.next;
+        // `as` stays: the place is below 64, and `try_from` would add an error that cannot come.
+        let place = self.rows.len() as u8;
+        self.hints[hint_of(serial)] = place;
+        self.openings[bucket(&opening.follower)] = place;
         self.rows.push_reserved(Row {
             span: Span {
                 serial,

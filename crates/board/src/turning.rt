@@ -1,14 +1,22 @@
 // From one state to the next.
-ghost use Rattle.std.specs.Prelude.{◌≡◌, ◌+◌, ◌<◌, ◌≤◌, ◌++◌, take, drop, vec_len, vec_capacity};
+ghost use Rattle.std.specs.Prelude.{◌≡◌, ◌+◌, ◌<◌, ◌≤◌, ◌++◌, replicate, vec_len, vec_capacity};
 ghost use Rattle.meaning.specs.Runs.{first_work, next_work};
 ghost use Rattle.board.specs.Held.{held};
 ghost use Rattle.board.specs.Store.{kept_rows};
 
 use crate::board::Board;
 use crate::parts::Row;
+use crate::places::hint_moved;
 use meaning::Span;
 use sheet::MOST_VARIABLES;
 use value::End;
+
+// Forgets all numbers: as a state begins, no variable has one.
+fn forget_values(values: &mut [Option<i64>; MOST_VARIABLES])
+    ensures { values.new ≡ replicate MOST_VARIABLES None }
+{
+    *values = [None; MOST_VARIABLES];
+}
 
 // Drops the spans that do not go on. Those that do are no longer fresh, and their ends are unknown.
 fn keep_rows(rows: &mut Vec<Row>)
@@ -30,10 +38,12 @@ impl Board {
         requires { self.old.next ≤ 4200000 }
         ensures { held self.new ≡ next_work (held self.old) }
     {
-        self.values = [None; MOST_VARIABLES];
+        forget_values(&mut self.values);
         std::mem::swap(&mut self.duties, &mut self.carried);
         self.carried.clear();
+        let before = self.rows.len();
         keep_rows(&mut self.rows);
+        hint_moved(&mut self.hints, &self.rows, before);
         self.base = self.next;
     }
 
@@ -41,7 +51,7 @@ impl Board {
     pub fn begin(&mut self, run: u16)
         ensures { held self.new ≡ first_work run }
     {
-        self.values = [None; MOST_VARIABLES];
+        forget_values(&mut self.values);
         self.duties.clear();
         self.carried.clear();
         self.rows.clear();

@@ -1,12 +1,26 @@
--- A row whose span was opened so decides.
-use Rattle.std.proofs.Common.{rules, vec_items, ◌∙◌}
-use Rattle.std.proofs.lemmas.Iterator.{YieldsList-from_slice}
-use Rattle.std.proofs.lemmas.Iterator.Search.{any_from_yields_List}
-use Rattle.board.proofs.Alike.{opened_row, opened_rows}
+-- No row of the bucket stands at its place, or the rows are asked.
+use Rattle.std.proofs.Common.{sym, ap, ◌∙◌, vec_items}
+use Rattle.board.specs.Buckets.{row_in, is_in}
+use Rattle.board.proofs.Listed.{none_opened, at_place, past_end, in_alike}
 use Rattle.board.proofs.board.Board.has_opened.Goals as goal
 
-pub returns : goal.returns
-returns c =
-    let rows = vec_items c.args.self.now.rows in
-    any_from_yields_List (opened_row c.args.opening) _ _ c.any.result c.any.ensures.ran (YieldsList-from_slice rows cc) (λ x b q k. search rules)
-    ∙ opened_rows c.args.opening rows
+pub returns-in-None : goal.returns-in-None
+returns-in-None c =
+    let b = c.args.self.now in
+    let l = vec_items b.rows in
+    let own = c.bucket-own.result in
+    none_opened b.openings l c.args.opening own _ b.opened c.bucket-own.ensures c.from.ensures
+    (ap (is_in own) (past_end row_in l _ c.from.result c.deref.ensures.value c.in-None.ensures.lookup.0))
+
+pub returns-else-eq : goal.returns-else-eq
+returns-else-eq c =
+    let b = c.args.self.now in
+    let l = vec_items b.rows in
+    let own = c.bucket-own.result in
+    let found = c.in-Some.ensures.lookup in
+    c.if-eq.false
+    ∙ none_opened b.openings l c.args.opening own _ b.opened c.bucket-own.ensures c.from.ensures
+    (ap (is_in own) (at_place row_in l _ c.from.result _ c.deref.ensures.value found.0 found.1 ∙ sym c.opened_in.ensures)
+    ∙ sym (in_alike c.opened_in.result own)
+    ∙ sym c.eq.ensures
+    ∙ c.if-eq.false)
