@@ -38,13 +38,8 @@ impl<'a, F: Feed> Visits<Span> for Pass<'a, F> {
         board.span(place)
     }
 
-    // A visit to a span that changes something is the last that does, in this state.
     fn visit(&self, board: &mut Board, _memo: &mut Memo, item: Span) -> Result<Visited, Stop> {
-        let changed = rules::visit_span(board, item)?;
-        Ok(Visited {
-            changed,
-            done: changed,
-        })
+        rules::visit_span(board, item)
     }
 }
 
