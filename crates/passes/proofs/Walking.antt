@@ -29,6 +29,13 @@ also_no : (o : Outcome) → also false o ≡ o
 also_no (stops s) = refl
 also_no (goes u b) = refl
 
+-- a skip that is lengthened leads past the item to which it led
+pub leads_past : (skips longer : List ℕ) (i p : ℕ) → p ≡ i + get_or skips i 0 → i < length skips → longer ≡ set skips i (get_or skips i 0 + 1 + get_or skips (p + 1) 0) → p < i + get_or longer i 0
+leads_past skips longer i p e h q =
+    let n : ℕ = get_or skips i 0 + 1 + get_or skips (p + 1) 0 in
+    let s : get_or longer i 0 ≡ n = ap (λ (l : List ℕ). get_or l i 0) q ∙ get_or-set_same skips i n 0 h in
+    omega (arith, e, s)
+
 module _ {T : Type 0} (items : Work → List T) (visited : T → Work → Outcome) where
   -- the visits from place i on, one place further
   from_more : (n i : ℕ) (w : Work) → i < n → visit_from items visited (n - i) i w ≡ visit_one visited (slice_get (items w) i) (visit_from items visited (n - (i + 1)) (i + 1)) w

@@ -1,5 +1,5 @@
 // What a pass visits, and the visits from first to last.
-ghost use Rattle.std.specs.Prelude.{◌≡◌, ℕ, suc, ◌+◌, ◌≤◌, ◌<◌, true, false, List, length, slice_index, Some as some, IfOk, OnOk};
+ghost use Rattle.std.specs.Prelude.{◌≡◌, ℕ, suc, ◌≤◌, ◌<◌, true, false, List, length, Some as some, IfOk, OnOk};
 ghost use Rattle.std.specs.List.{slice_get};
 ghost use Rattle.meaning.specs.Intervals.{Setting};
 ghost use Rattle.meaning.specs.Order.{Tidy, Later};
@@ -49,34 +49,6 @@ pub(crate) trait Visits<T> {
     ghost stays: { (w u : Work) → Later w u → (i : ℕ) (t : T) → slice_get (items w) i ≡ some t → slice_get (items u) i ≡ some t };
 }
 
-// The visit to the item to which the skip from a place leads. Where the visit is done, the skip leads over the item from then on.
-fn visit_at<T: Copy, P: Visits<T>>(
-    pass: &P,
-    board: &mut Board,
-    memo: &mut Memo,
-    skips: &mut [u16],
-    from: usize,
-    place: usize,
-    item: T,
-) -> Result<Visited, Stop>
-    requires tidy { (S : Setting) × P.within pass.now S × Tidy S (held board.old) }
-    requires there { slice_get (P.items (held board.old)) place ≡ some item }
-    requires few { length (P.items (held board.old)) ≤ P.most }
-    requires skipped { SkippedBy P.items (P.visited pass.now) (held board.old) skips.old }
-    requires long { length skips.old ≡ suc P.most }
-    requires leads { place ≡ from + slice_index skips.old from }
-    ensures visited { told (changed result) (held board.new) ≡ P.visited pass.now item (held board.old) }
-    ensures skipped { OnOk result (SkippedBy P.items (P.visited pass.now) (held board.new) skips.new) }
-    ensures leaves { OnOk result (Leaves (P.within pass.now) (held board.old) (held board.new)) }
-    ensures further { IfOk result (λ r. r.done ≡ true → place < from + slice_index skips.new from) }
-{
-    let visit = pass.visit(board, memo, item)?;
-    if visit.done {
-        lengthen(skips, from, place);
-    }
-    Ok(visit)
-}
-
 // Visits to the items from first to last, to those that are added meanwhile too. Where an item is skipped the visit is left out, since it would change nothing.
 pub(crate) fn visit_all<T: Copy, P: Visits<T>>(
     pass: &P,
@@ -96,9 +68,11 @@ pub(crate) fn visit_all<T: Copy, P: Visits<T>>(
     // No `for` over the places: the list may grow, and only the list itself says that no item is left.
     let mut place = next_place(skips, from);
     while let Some(item) = pass.item(board, place) {
-        let visit = visit_at(pass, board, memo, skips, from, place, item)?;
+        let visit = pass.visit(board, memo, item)?;
         changed |= visit.changed;
-        if !visit.done {
+        if visit.done {
+            lengthen(skips, from, place);
+        } else {
             from = place + 1;
         }
         place = next_place(skips, from);

@@ -1,15 +1,14 @@
 -- Each visit is the next one, and keeps what the invariant says; the places end with the list.
-use Rattle.std.proofs.Common.{◌≡◌, ◌<◌, ◌≤◌, suc, ◌+◌, ◌||◌, get_or, sym, ap, ◌∙◌, arith}
-use Rattle.std.proofs.lemmas.Bool.{not-false}
+use Rattle.std.proofs.Common.{◌≡◌, ◌<◌, ◌≤◌, suc, ◌+◌, ◌||◌, get_or, sym, ap, ◌∙◌, subst, arith}
 use Rattle.std.proofs.lemmas.Option.{slice_get_within}
 use Rattle.std.proofs.lemmas.Result.{err_from_is_err_and}
 use Rattle.meaning.specs.Work.{also}
 use Rattle.meaning.proofs.Later.{later_refl, later_trans}
 use Rattle.board.specs.Held.{held}
-use Rattle.passes.specs.Walks.{visit_from}
-use Rattle.passes.proofs.Walking.{over_skip, from_start, from_next, from_stop, from_over, skip_within}
+use Rattle.passes.specs.Walks.{visit_from, SkippedBy}
+use Rattle.passes.proofs.Walking.{over_skip, from_start, from_next, from_stop, from_over, skip_within, leads_past, skipped_later, skipped_longer}
 use Rattle.passes.proofs.visits.visit_all.Goals as goal
-use Rattle.passes.proofs.visits.visit_all.Goals.{then-not-visit, else-not-visit}
+use Rattle.passes.proofs.visits.visit_all.Goals.{then-visit, else-visit}
 
 pub returns-in_err-visit-clause-visited : goal.returns-in_err-visit-clause-visited
 returns-in_err-visit-clause-visited g c =
@@ -36,19 +35,56 @@ loop-item-init g c =
       within = omega arith;
     }
 
-pub visit_at-requires-clause-tidy : goal.visit_at-requires-clause-tidy
-visit_at-requires-clause-tidy g c = let t = c.requires.tidy in (t.0, t.1, c.loop-item.invariant.leaves.tidy t.0 t.1 t.2)
+pub visit-requires-clause-tidy : goal.visit-requires-clause-tidy
+visit-requires-clause-tidy g c = let t = c.requires.tidy in (t.0, t.1, c.loop-item.invariant.leaves.tidy t.0 t.1 t.2)
+
+pub lengthen-requires-clause-from : goal.lengthen-requires-clause-from
+lengthen-requires-clause-from g c =
+    let l = c.loop-item in
+    omega (arith, slice_get_within (g.P.Visits.items (held l.board)) l.place c.in-Some.item (sym c.in-Some.ensures.found), c.item.ensures.few, c.requires.long, l.auto.skips, l.invariant.leads)
+
+pub lengthen-requires-clause-place : goal.lengthen-requires-clause-place
+lengthen-requires-clause-place g c =
+    let l = c.loop-item in
+    omega (arith, slice_get_within (g.P.Visits.items (held l.board)) l.place c.in-Some.item (sym c.in-Some.ensures.found), c.item.ensures.few, c.requires.long, l.auto.skips)
+
+pub lengthen-requires-clause-short : goal.lengthen-requires-clause-short
+lengthen-requires-clause-short g c =
+    let V = g.P.Visits in
+    let l = c.loop-item in
+    let w = held l.board in
+    let i = slice_get_within (V.items w) l.place c.in-Some.item (sym c.in-Some.ensures.found) in
+    let s = skip_within V.items (V.visited c.args.pass.now) w l.skips (l.place + 1) l.invariant.skipped (omega (arith, i)) in
+    omega (arith, s, c.item.ensures.few, l.invariant.leads, g.met.P.Visits.small)
 
 -- after a visit that waits the walk goes on past its item, and else the skip leads past it
-past : (g : _) (c : goal.After-next_place-place-in-Some g) → (c.if-not-visit.from ≤ c.loop-item.place + 1) × (c.loop-item.place < c.if-not-visit.from + get_or c.visit_at.new.skips c.if-not-visit.from 0)
+past : (g : _) (c : goal.After-next_place-place-in-Some g) → (c.if-visit.from ≤ c.loop-item.place + 1) × (c.loop-item.place < c.if-visit.from + get_or c.if-visit.skips c.if-visit.from 0)
 past g c =
     let l = c.loop-item in
-    elim c.if-not-visit.branch [
-      | then-not-visit w ↦ (omega (arith, w.from-is), omega (arith, w.from-is))
-      | else-not-visit w ↦
-          let f = c.in_ok-visit.ensures.further (not-false c.in_ok-visit.visit.done w.if-not-visit.false) in
-          let s : get_or c.visit_at.new.skips c.if-not-visit.from 0 ≡ get_or c.visit_at.new.skips l.from 0 = ap (λ z. get_or c.visit_at.new.skips z 0) w.from-is in
-          (omega (arith, w.from-is, l.invariant.leads), omega (arith, w.from-is, f, s))
+    let i = slice_get_within (g.P.Visits.items (held l.board)) l.place c.in-Some.item (sym c.in-Some.ensures.found) in
+    elim c.if-visit.branch [
+      | then-visit w ↦
+          let s = leads_past l.skips c.if-visit.skips l.from l.place l.invariant.leads (omega (arith, i, c.item.ensures.few, c.requires.long, l.auto.skips, l.invariant.leads)) (w.skips-is ∙ w.lengthen.ensures) in
+          let e : get_or c.if-visit.skips c.if-visit.from 0 ≡ get_or c.if-visit.skips l.from 0 = ap (λ z. get_or c.if-visit.skips z 0) w.from-is in
+          (omega (arith, w.from-is, l.invariant.leads), omega (arith, w.from-is, s, e))
+      | else-visit w ↦ (omega (arith, w.from-is), omega (arith, w.from-is))
+    ]
+
+-- and the skips are right
+right : (g : _) (c : goal.After-next_place-place-in-Some g) → SkippedBy g.P.Visits.items (g.P.Visits.visited c.args.pass.now) (held c.visit.new.board) c.if-visit.skips
+right g c =
+    let V = g.P.Visits in
+    let v = V.visited c.args.pass.now in
+    let l = c.loop-item in
+    let w = held l.board in
+    let u = held c.visit.new.board in
+    let e = c.in_ok-visit.ensures in
+    let t = sym c.in-Some.ensures.found in
+    let i = slice_get_within (V.items w) l.place c.in-Some.item t in
+    elim c.if-visit.branch [
+      | then-visit b ↦ subst (SkippedBy V.items v u) (sym (b.skips-is ∙ b.lengthen.ensures))
+          (skipped_longer V.items v g.met.P.Visits.stays l.from l.place c.in-Some.item w u l.skips l.invariant.leads (omega (arith, i, c.item.ensures.few, c.requires.long, l.auto.skips, l.invariant.leads)) t (e.vain b.if-visit.true) e.leaves.later l.invariant.skipped)
+      | else-visit b ↦ subst (SkippedBy V.items v u) (sym b.skips-is) (skipped_later V.items v g.met.P.Visits.stays w u l.skips e.leaves.later l.invariant.skipped)
     ]
 
 pub loop-item-smaller : goal.loop-item-smaller
@@ -63,9 +99,10 @@ loop-item-preserved g c =
     let l = c.loop-item in
     let e = c.in_ok-visit.ensures in
     let w = held l.board in
-    let u = held c.visit_at.new.board in
-    let skips = c.visit_at.new.skips in
-    let from = c.if-not-visit.from in
+    let u = held c.visit.new.board in
+    let skips = c.if-visit.skips in
+    let r = right g c in
+    let from = c.if-visit.from in
     let n = suc V.most in
     let o = visit_from V.items v n 0 (held c.args.board.now) in
     let i = slice_get_within (V.items w) l.place c.in-Some.item (sym c.in-Some.ensures.found) in
@@ -73,11 +110,11 @@ loop-item-preserved g c =
     let q = over_skip V.items v n l.from l.place w l.skips l.invariant.skipped (omega (arith, l.invariant.leads)) (omega (arith, l.invariant.leads)) h in
     let s = past g c in
     let k : l.place + 1 < n = omega (arith, i, c.item.ensures.few) in
-    let p = over_skip V.items v n from (l.place + 1) u skips e.skipped s.0 (omega (arith, s.1)) k in
+    let p = over_skip V.items v n from (l.place + 1) u skips r s.0 (omega (arith, s.1)) k in
     let j = slice_get_within (V.items u) l.place c.in-Some.item (g.met.P.Visits.stays w u e.leaves.later l.place c.in-Some.item (sym c.in-Some.ensures.found)) in
     record {
       going = ap (also (l.changed || c.in_ok-visit.visit.changed)) p ∙ from_next V.items v n l.place c.in-Some.item w u l.changed c.in_ok-visit.visit.changed o h (sym c.in-Some.ensures.found) e.visited (sym (ap (also l.changed) q) ∙ l.invariant.going);
-      skipped = e.skipped;
+      skipped = r;
       leaves = record { tidy = λ S m t. e.leaves.tidy S m (l.invariant.leaves.tidy S m t); later = later_trans l.invariant.leaves.later e.leaves.later };
       leads = c.next_place-place-in-Some.ensures;
       within = omega (arith, j, s.0);
