@@ -62,7 +62,11 @@ module _ {T : Type 0} (items : Work → List T) (visited : T → Work → Outcom
   pub over_skip : (n i j : ℕ) (w : Work) (skips : List ℕ) → SkippedBy items visited w skips → i ≤ j → j ≤ i + get_or skips i 0 → j < n → visit_from items visited (n - i) i w ≡ visit_from items visited (n - j) j w
   over_skip n i j w skips h a b l = from_row (j - i) n i j w (omega (arith, a)) l (λ k x y. h i k x (omega (arith, y, b)))
 
-  -- all of them are those from place 0 on, where nothing has changed before
+  -- what the visits from place i on come to, those from where the skip leads come to
+  pub from_skip : (n i j : ℕ) (w : Work) (skips : List ℕ) (a : Bool) (o : Outcome) → SkippedBy items visited w skips → j ≡ i + get_or skips i 0 → j < n → also a (visit_from items visited (n - i) i w) ≡ o → also a (visit_from items visited (n - j) j w) ≡ o
+  from_skip n i j w skips a o h e l q = sym (ap (also a) (over_skip n i j w skips h (omega (arith, e)) (omega (arith, e)) l)) ∙ q
+
+  -- those from place 0 on are all, where nothing has changed before
   pub from_start : (n : ℕ) (w : Work) → also false (visit_from items visited (n - 0) 0 w) ≡ visit_from items visited n 0 w
   from_start n w = let e : n - 0 ≡ n = omega arith in also_no (visit_from items visited (n - 0) 0 w) ∙ ap (λ (z : ℕ). visit_from items visited z 0 w) e
 

@@ -6,7 +6,7 @@ use Rattle.meaning.specs.Work.{also}
 use Rattle.meaning.proofs.Later.{later_refl, later_trans}
 use Rattle.board.specs.Held.{held}
 use Rattle.passes.specs.Walks.{visit_from, SkippedBy}
-use Rattle.passes.proofs.Walking.{over_skip, from_start, from_next, from_stop, from_over, skip_within, leads_past, skipped_later, skipped_longer}
+use Rattle.passes.proofs.Walking.{over_skip, from_skip, from_start, from_next, from_stop, from_over, skip_within, leads_past, skipped_later, skipped_longer}
 use Rattle.passes.proofs.visits.visit_all.Goals as goal
 use Rattle.passes.proofs.visits.visit_all.Goals.{then-visit, else-visit}
 
@@ -20,8 +20,8 @@ returns-in_err-visit-clause-visited g c =
     let o = visit_from V.items v n 0 (held c.args.board.now) in
     let h : l.place < n = omega (arith, slice_get_within (V.items w) l.place c.in-Some.item (sym c.in-Some.ensures.found), c.item.ensures.few) in
     let p = err_from_is_err_and c.from_residual.result c.from_residual.ensures.1 in
-    let q = over_skip V.items v n l.from l.place w l.skips l.invariant.skipped (omega (arith, l.invariant.leads)) (omega (arith, l.invariant.leads)) h in
-    rw (p.1, p.2) (from_stop V.items v n l.place c.in-Some.item w c.in_err-visit.field-0.0 l.changed o h (sym c.in-Some.ensures.found) c.in_err-visit.ensures.visited (sym (ap (also l.changed) q) ∙ l.invariant.going))
+    let q = from_skip V.items v n l.from l.place w l.skips l.changed o l.invariant.skipped l.invariant.leads h l.invariant.going in
+    rw (p.1, p.2) (from_stop V.items v n l.place c.in-Some.item w c.in_err-visit.field-0.0 l.changed o h (sym c.in-Some.ensures.found) c.in_err-visit.ensures.visited q)
 
 pub loop-item-init : goal.loop-item-init
 loop-item-init g c =
@@ -107,13 +107,13 @@ loop-item-preserved g c =
     let o = visit_from V.items v n 0 (held c.args.board.now) in
     let i = slice_get_within (V.items w) l.place c.in-Some.item (sym c.in-Some.ensures.found) in
     let h : l.place < n = omega (arith, i, c.item.ensures.few) in
-    let q = over_skip V.items v n l.from l.place w l.skips l.invariant.skipped (omega (arith, l.invariant.leads)) (omega (arith, l.invariant.leads)) h in
+    let q = from_skip V.items v n l.from l.place w l.skips l.changed o l.invariant.skipped l.invariant.leads h l.invariant.going in
     let s = past g c in
     let k : l.place + 1 < n = omega (arith, i, c.item.ensures.few) in
     let p = over_skip V.items v n from (l.place + 1) u skips r s.0 (omega (arith, s.1)) k in
     let j = slice_get_within (V.items u) l.place c.in-Some.item (g.met.P.Visits.stays w u e.leaves.later l.place c.in-Some.item (sym c.in-Some.ensures.found)) in
     record {
-      going = ap (also (l.changed || c.in_ok-visit.visit.changed)) p ∙ from_next V.items v n l.place c.in-Some.item w u l.changed c.in_ok-visit.visit.changed o h (sym c.in-Some.ensures.found) e.visited (sym (ap (also l.changed) q) ∙ l.invariant.going);
+      going = ap (also (l.changed || c.in_ok-visit.visit.changed)) p ∙ from_next V.items v n l.place c.in-Some.item w u l.changed c.in_ok-visit.visit.changed o h (sym c.in-Some.ensures.found) e.visited q;
       skipped = r;
       leaves = record { tidy = λ S m t. e.leaves.tidy S m (l.invariant.leaves.tidy S m t); later = later_trans l.invariant.leaves.later e.leaves.later };
       leads = c.next_place-place-in-Some.ensures;
@@ -129,5 +129,5 @@ returns-clause-visited g c =
     let n = suc V.most in
     let o = visit_from V.items v n 0 (held c.args.board.now) in
     let h : l.place < n = omega (arith, skip_within V.items v w l.skips l.from l.invariant.skipped l.invariant.within, l.invariant.leads, c.item.ensures.few) in
-    let q = over_skip V.items v n l.from l.place w l.skips l.invariant.skipped (omega (arith, l.invariant.leads)) (omega (arith, l.invariant.leads)) h in
-    from_over V.items v n l.place w l.changed o h (sym c.in_default.ensures.found) (sym (ap (also l.changed) q) ∙ l.invariant.going)
+    let q = from_skip V.items v n l.from l.place w l.skips l.changed o l.invariant.skipped l.invariant.leads h l.invariant.going in
+    from_over V.items v n l.place w l.changed o h (sym c.in_default.ensures.found) q
