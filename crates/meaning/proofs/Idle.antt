@@ -1,5 +1,6 @@
--- A duty whose visit waits for nothing, and a span whose visit has changed something, are visited in vain for the rest of the state.
+-- A duty and a span whose visits wait for nothing are visited in vain for the rest of the state.
 use Rattle.std.proofs.Common.{◌≡◌, ℕ, ◌<◌, Bool, true, false, ◌⊎◌, Some, None, Option, sym, refl, ap, ◌∙◌, subst, inl, inr, arith}
+use Rattle.std.proofs.lemmas.Bool.{true≢false, not-false}
 use Rattle.value.specs.declared.parts.End.{End}
 use Rattle.value.specs.declared.parts.End.TheVariants.{Unknown, On, Last}
 use Rattle.meaning.specs.declared.parts.Duty.{Duty}
@@ -10,7 +11,8 @@ use Rattle.meaning.specs.Work.{Work, Outcome, stops, goes, also, and_then}
 use Rattle.meaning.specs.Effects.{put, add}
 use Rattle.meaning.specs.Rules.{visit, take_last, hand_on, visit_opened, visit_span}
 use Rattle.meaning.specs.Order.{◌∈◌, Later}
-use Rattle.meaning.specs.Waiting.{waits}
+use Rattle.meaning.specs.Runs.{is_ended}
+use Rattle.meaning.specs.Waiting.{waits, opened_waits, span_waits}
 use Rattle.meaning.proofs.Kept.{OfWork, kept_hand}
 use Rattle.meaning.proofs.Later.{later_refl, later_duty, later_kept, end_stays}
 use Rattle.meaning.proofs.Spent.{Spent, put-again, add-again, then_again, rule-again}
@@ -43,30 +45,27 @@ span_later w u s None h l p = tt
 span_later w u s (Some g) h l (inl p) = inl (end_stays s On h l.0 p.0 tt, end_stays g.follower.span On h l.1 p.1 tt)
 span_later w u s (Some g) h l (inr p) = inr (end_stays s Last h l.0 p.0 tt, later_duty h p.1)
 
--- an outcome that has changed something says P
-abbrev OnChange : (Work → Type 0) → Outcome → Type 0
-OnChange P (stops s) = Unit {0}
-OnChange P (goes u true) = P u
-OnChange P (goes u false) = Unit {0}
+-- an outcome after which the end of s is known says P
+abbrev OnEnd : (Work → Type 0) → ℕ → Outcome → Type 0
+OnEnd P s (stops x) = Unit {0}
+OnEnd P s (goes u c) = is_ended (u.ends s) ≡ true → P u
 
-changed_so : (P : Work → Type 0) (o : Outcome) → OfWork P o → OnChange P o
-changed_so P (stops s) h = tt
-changed_so P (goes u true) h = h
-changed_so P (goes u false) h = tt
+ended_so : (P : Work → Type 0) (s : ℕ) (o : Outcome) → OfWork P o → OnEnd P s o
+ended_so P s (stops x) h = tt
+ended_so P s (goes u c) h = λ _. h
 
-also_change : (P : Work → Type 0) (o : Outcome) → OnChange P o → OnChange P (also false o)
-also_change P (stops s) h = tt
-also_change P (goes u true) h = h
-also_change P (goes u false) h = tt
+also_end : (P : Work → Type 0) (s : ℕ) (o : Outcome) → OnEnd P s o → OnEnd P s (also false o)
+also_end P s (stops x) h = tt
+also_end P s (goes u c) h = h
 
-hand_change : (S : Setting) (w : Work) (s : ℕ) (g : Opening) (c : End) → s < w.next → w.ends s ≡ c → OnChange (λ u. SpanSpent u s (Some g)) (hand_on c g w)
-hand_change S w s g Unknown l e = tt
-hand_change S w s g On l e =
-    changed_so _ (put g.by On g.follower.span w)
+hand_end : (S : Setting) (w : Work) (s : ℕ) (g : Opening) (c : End) → s < w.next → w.ends s ≡ c → OnEnd (λ u. SpanSpent u s (Some g)) s (hand_on c g w)
+hand_end S w s g Unknown l e = λ h. absurd (true≢false (sym h ∙ ap is_ended e))
+hand_end S w s g On l e =
+    ended_so _ s (put g.by On g.follower.span w)
     (of_more (λ u. Later w u × (u.ends g.follower.span ≡ On)) (λ u. SpanSpent u s (Some g)) (put g.by On g.follower.span w) (λ u r. inl (end_stays s On r.0 l e tt, r.1))
     (of_both (Later w) (λ u. u.ends g.follower.span ≡ On) (put g.by On g.follower.span w) ((later_kept S w).puts g.by On g.follower.span w (later_refl w)) (put_does g.by On g.follower.span w tt)))
-hand_change S w s g Last l e =
-    changed_so _ (add g.follower w)
+hand_end S w s g Last l e =
+    ended_so _ s (add g.follower w)
     (of_more (λ u. Later w u × (g.follower ∈ u.duties)) (λ u. SpanSpent u s (Some g)) (add g.follower w) (λ u r. inr (end_stays s Last r.0 l e tt, r.1))
     (of_both (Later w) (λ u. g.follower ∈ u.duties) (add g.follower w) ((later_kept S w).adds g.follower w (later_refl w)) (add_does g.follower w)))
 
@@ -76,11 +75,11 @@ hand_last S u s g l e =
     (of_more (λ v. Later u v × (g.follower ∈ v.duties)) (λ v. SpanSpent v s (Some g)) (add g.follower u) (λ v r. inr (end_stays s Last r.0 l e tt, r.1))
     (of_both (Later u) (λ v. g.follower ∈ v.duties) (add g.follower u) ((later_kept S u).adds g.follower u (later_refl u)) (add_does g.follower u)))
 
-opened_change : (S : Setting) (w : Work) (s : ℕ) (g : Opening) (c : End) → s < w.next → OnChange (λ u. SpanSpent u s (Some g)) (and_then (take_last c g.by s w) (λ u. hand_on (u.ends s) g u))
-opened_change S w s g Unknown l = also_change _ (hand_on (w.ends s) g w) (hand_change S w s g (w.ends s) l refl)
-opened_change S w s g On l = also_change _ (hand_on (w.ends s) g w) (hand_change S w s g (w.ends s) l refl)
-opened_change S w s g Last l =
-    changed_so _ (and_then (put g.by Last s w) (λ u. hand_on (u.ends s) g u))
+opened_end : (S : Setting) (w : Work) (s : ℕ) (g : Opening) (c : End) → s < w.next → OnEnd (λ u. SpanSpent u s (Some g)) s (and_then (take_last c g.by s w) (λ u. hand_on (u.ends s) g u))
+opened_end S w s g Unknown l = also_end _ s (hand_on (w.ends s) g w) (hand_end S w s g (w.ends s) l refl)
+opened_end S w s g On l = also_end _ s (hand_on (w.ends s) g w) (hand_end S w s g (w.ends s) l refl)
+opened_end S w s g Last l =
+    ended_so _ s (and_then (put g.by Last s w) (λ u. hand_on (u.ends s) g u))
     (of_then (λ u. (u.ends s ≡ Last) × (s < u.next)) (λ u. SpanSpent u s (Some g)) (λ u. SpanSpent u s (Some g)) (put g.by Last s w) (λ u. hand_on (u.ends s) g u)
     (of_more (λ u. Later w u × (u.ends s ≡ Last)) (λ u. (u.ends s ≡ Last) × (s < u.next)) (put g.by Last s w) (λ u r. (r.1, omega (arith, l, r.0.serials)))
     (of_both (Later w) (λ u. u.ends s ≡ Last) (put g.by Last s w) ((later_kept S w).puts g.by Last s w (later_refl w)) (put_does g.by Last s w tt)))
@@ -92,12 +91,12 @@ visit-idle S k d w u c l n e h v m =
     let p : Spent S k d u (statement_at S d.statement) d.number = subst (OfWork (λ z. Spent S k d z (statement_at S d.statement) d.number)) e (rule_spends S k d w l (statement_at S d.statement) d.number n) in
     rule-again S k d v (statement_at S d.statement) d.number (spent_later S k d u v m (omega (arith, l, h.serials)) (statement_at S d.statement) d.number p)
 
--- nor does a visit to a span, after one that has changed something
-pub span_idle : (S : Setting) (t : Span) (w u : Work) → Inside w.next t.serial t.opening → visit_span t w ≡ goes u true → Later w u → (v : Work) → Later u v → visit_span t v ≡ goes v false
-span_idle S t w u l e h v m = by t.opening l e
+-- nor does a visit to a span
+pub span_idle : (S : Setting) (t : Span) (w u : Work) (c : Bool) → Inside w.next t.serial t.opening → span_waits t u ≡ false → visit_span t w ≡ goes u c → Later w u → (v : Work) → Later u v → visit_span t v ≡ goes v false
+span_idle S t w u c l n e h v m = by t.opening l n e
   where
-    by : (q : Option Opening) → Inside w.next t.serial q → visit_opened q t.serial w ≡ goes u true → visit_opened q t.serial v ≡ goes v false
-    by None l e = refl
-    by (Some g) l e =
-        let p : SpanSpent u t.serial (Some g) = subst (OnChange (λ z. SpanSpent z t.serial (Some g))) e (opened_change S w t.serial g (w.ends g.follower.span) l.0) in
+    by : (q : Option Opening) → Inside w.next t.serial q → opened_waits q t.serial u ≡ false → visit_opened q t.serial w ≡ goes u c → visit_opened q t.serial v ≡ goes v false
+    by None l n e = refl
+    by (Some g) l n e =
+        let p : SpanSpent u t.serial (Some g) = subst (OnEnd (λ z. SpanSpent z t.serial (Some g)) t.serial) e (opened_end S w t.serial g (w.ends g.follower.span) l.0) (not-false (is_ended (u.ends t.serial)) n) in
         span_again v t.serial (Some g) (span_later u v t.serial (Some g) m (omega (arith, l.0, h.serials), omega (arith, l.1, h.serials)) p)

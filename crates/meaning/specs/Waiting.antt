@@ -1,10 +1,12 @@
--- What a visit to a duty waits for. The contracts of the code that settles a state ask for it; no law speaks of it. Assumes nothing.
-use Rattle.std.specs.Prelude.{Bool, true, false, not, ℤ, Some, None, Option, is_none}
+-- What visits to duties and to spans wait for. The contracts of the code that settles a state ask for it; no law speaks of it. Assumes nothing.
+use Rattle.std.specs.Prelude.{ℕ, Bool, true, false, not, ℤ, Some, None, Option, is_none}
 use Rattle.sheet.specs.declared.parts.Statement.{Statement}
 use Rattle.sheet.specs.declared.parts.Statement.TheVariants.{True, False, Empty, More, Is, And, If, Next, Always, Halt, Len, Gets, Chop, For, While, Request}
 use Rattle.value.specs.declared.parts.End.{End}
 use Rattle.value.specs.declared.parts.End.TheVariants.{Unknown, On, Last}
 use Rattle.meaning.specs.declared.parts.Duty.{Duty}
+use Rattle.meaning.specs.declared.parts.Opening.{Opening}
+use Rattle.meaning.specs.declared.parts.Span.{Span}
 use Rattle.meaning.specs.Intervals.{Setting, statement_at}
 use Rattle.meaning.specs.Work.{Work}
 use Rattle.meaning.specs.Rules.{known_for}
@@ -42,3 +44,12 @@ rule_waits S (Request x) o d w = false
 -- whether a visit to a duty waits
 abbrev pub waits : Setting → Duty → Work → Bool
 waits S d w = rule_waits S (statement_at S d.statement) d.number d w
+
+-- whether a visit that leaves the work u waits, for a span with the serial s: for its end; the whole interval waits for nothing
+abbrev pub opened_waits : Option Opening → ℕ → Work → Bool
+opened_waits None s u = false
+opened_waits (Some g) s u = not (is_ended (u.ends s))
+
+-- whether a visit to a span, which leaves the work u, waits
+abbrev pub span_waits : Span → Work → Bool
+span_waits t u = opened_waits t.opening t.serial u

@@ -42,7 +42,7 @@ told_ok (Ok v) u o P e f = f v.changed e
 told_ok (Err s) u o P e f = tt
 
 -- a slice of a whole list, given back, is the list
-pub back : (n : ℕ) (new old : List Bool) → n ≡ length new → take n (new ++ drop (length new) old) ≡ new
+pub back : (n : ℕ) (new old : List ℕ) → n ≡ length new → take n (new ++ drop (length new) old) ≡ new
 back n new old e = ap (λ (z : ℕ). take z (new ++ drop (length new) old)) e ∙ take-append_seam new (drop (length new) old)
 
 -- a visit to a duty of the list keeps the work in order

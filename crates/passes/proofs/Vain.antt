@@ -10,7 +10,7 @@ use Rattle.meaning.specs.Intervals.{Setting}
 use Rattle.meaning.specs.Work.{Work, goes}
 use Rattle.meaning.specs.Rules.{visit, visit_span}
 use Rattle.meaning.specs.Order.{◌∈◌, Lives, Nested, Tidy, Later}
-use Rattle.meaning.specs.Waiting.{waits}
+use Rattle.meaning.specs.Waiting.{waits, span_waits}
 use Rattle.meaning.proofs.Lists.{nth_in}
 use Rattle.meaning.proofs.Idle.{Inside, visit-idle, span_idle}
 use Rattle.board.specs.Answers.{told}
@@ -37,8 +37,10 @@ pub duty_vain : (S : Setting) (k i : ℕ) (d : Duty) (w u : Work) (r : Result Vi
 duty_vain S k i d w u (Ok a) t e h n = λ m. visit-idle S k d w u a.changed (lives_below S w d.span t (t.duty_lives d (nth_in w.duties i d e))) (not_says (waits S d w) (sym n ∙ m)) (sym h) (visit_later S k d w u a.changed h)
 duty_vain S k i d w u (Err s) t e h n = tt
 
--- and a span after one that changes something
-pub span_vain : (S : Setting) (i : ℕ) (t : Span) (w u : Work) → Tidy S w → slice_get w.spans i ≡ Some t → goes u true ≡ visit_span t w → (v : Work) → Later u v → visit_span t v ≡ goes v false
-span_vain S i t w u y e h =
+-- and so is a span
+pub span_vain : (S : Setting) (i : ℕ) (t : Span) (w u : Work) (r : Result Visited Stop) → Tidy S w → slice_get w.spans i ≡ Some t → told (changed r) u ≡ visit_span t w → IfOk r (λ a. a.done ≡ not (span_waits t u))
+    → IfOk r (λ a. a.done ≡ true → (v : Work) → Later u v → visit_span t v ≡ goes v false)
+span_vain S i t w u (Ok a) y e h n = λ m.
     let s : t ∈ w.spans = nth_in w.spans i t e in
-    span_idle S t w u (inside_of S w t.serial t.opening y (record { span = t; inside = s; named = refl }) (y.nested t s)) (sym h) (span_later S t w u true h)
+    span_idle S t w u a.changed (inside_of S w t.serial t.opening y (record { span = t; inside = s; named = refl }) (y.nested t s)) (not_says (span_waits t u) (sym n ∙ m)) (sym h) (span_later S t w u a.changed h)
+span_vain S i t w u (Err s) y e h n = tt

@@ -1,16 +1,13 @@
--- The visits to a list, one after another, and the marks on its items.
-use Rattle.std.proofs.Common.{◌≡◌, ℕ, zero, suc, ◌+◌, ◌-◌, ◌<◌, ◌≤◌, nat_lt, not, length, take, drop, Bool, true, false, ◌||◌, List, set, get_or, Some, None, Option, sym, refl, ap, ◌∙◌, subst, ⊎_elim, get_or-set_other, arith}
-use Rattle.std.proofs.Math.Seq.{take-length}
-use Rattle.std.specs.List.{slice_get, position, position_or_len}
-use Rattle.std.specs.Option.{unwrap_or}
-use Rattle.std.proofs.lemmas.Bool.{cases_eq, cond_both}
-use Rattle.std.proofs.lemmas.List.{get_or-drop, length-drop}
-use Rattle.std.proofs.lemmas.List.Sums.{fails_before_first}
+-- The visits to a list, one after another, and the skips over its items.
+use Rattle.std.proofs.Common.{◌≡◌, ℕ, zero, suc, ◌+◌, ◌-◌, ◌<◌, ◌≤◌, length, Bool, true, false, ◌||◌, List, set, get_or, Some, None, Option, sym, refl, ap, ◌∙◌, subst, ⊎_elim, get_or-set_other, get_or-set_same, arith}
+use Rattle.std.specs.List.{slice_get}
+use Rattle.std.proofs.lemmas.Bool.{cases_eq, cases_order}
 use Rattle.meaning.specs.declared.parts.Stop.{Stop}
 use Rattle.meaning.specs.Work.{Work, Outcome, stops, goes, also, and_then}
 use Rattle.meaning.specs.Order.{Later}
 use Rattle.meaning.proofs.Later.{later_refl, later_trans}
-use Rattle.passes.specs.Walks.{visit_one, visit_from, MarkedBy}
+use Rattle.meaning.proofs.Lists.{nth_within}
+use Rattle.passes.specs.Walks.{visit_one, visit_from, InVain, SkippedBy}
 
 -- or, of three
 or_more : (a b c : Bool) → (a || (b || c)) ≡ ((a || b) || c)
@@ -27,32 +24,17 @@ or_no : (a : Bool) → (a || false) ≡ a
 or_no true = refl
 or_no false = refl
 
-not_no : (b : Bool) → not b ≡ false → b ≡ true
-not_no true e = refl
-not_no false e = sym e
-
--- up to the first that is not marked, or to the end, all are
-up_to : (l : List Bool) (n : ℕ) → n ≡ unwrap_or (position not l) (length l) → n ≤ position_or_len not l
-up_to l n =
-    cond_both (nat_lt (position_or_len not l) (length l)) (Some (position_or_len not l)) None (λ (q : Option ℕ). n ≡ unwrap_or q (length l) → n ≤ position_or_len not l) (λ t e. omega (arith, e)) (λ t e. grind arith)
-
--- the places from p on up to the first that is not marked are marked
-pub marked_before : (l : List Bool) (p n : ℕ) (q : Option ℕ) → q ≡ position not (take (length l - p) (drop p l)) → n ≡ unwrap_or q (length (take (length l - p) (drop p l))) → (i : ℕ) → p ≤ i → i < p + n → get_or l i false ≡ true
-marked_before l p n q e f i a b =
-    let r : take (length l - p) (drop p l) ≡ drop p l = ap (λ (z : ℕ). take z (drop p l)) (sym (length-drop p l)) ∙ take-length (drop p l) in
-    let m : n ≤ position_or_len not (drop p l) = up_to (drop p l) n (f ∙ ap (λ (z : Option ℕ). unwrap_or z (length (take (length l - p) (drop p l)))) e ∙ ap (λ (z : List Bool). unwrap_or (position not z) (length z)) r) in
-    let s : p + (i - p) ≡ i = omega (arith, a) in
-    not_no (get_or l i false) (ap (λ (z : ℕ). not (get_or l z false)) (sym s) ∙ ap not (sym (get_or-drop p l (i - p) false)) ∙ fails_before_first not (drop p l) (i - p) false (omega (arith, m, a, b)))
-
--- a mark at a place that was set stands there, or was there before
-at_set : (l : List Bool) (p i : ℕ) (P : ℕ → Type 0) → (get_or l i false ≡ true → P i) → P p → get_or (set l p true) i false ≡ true → P i
-at_set l p i P h q e =
-    ⊎_elim (λ (a : i ≡ p). subst P (sym a) q) (λ (n : i ≡ p → ⊥). h (sym (get_or-set_other l p i true false n) ∙ e)) (cases_eq i p)
-
 -- or nothing, before
 also_no : (o : Outcome) → also false o ≡ o
 also_no (stops s) = refl
 also_no (goes u b) = refl
+
+-- a skip that is lengthened leads past the item to which it led
+pub leads_past : (skips longer : List ℕ) (i p : ℕ) → p ≡ i + get_or skips i 0 → i < length skips → longer ≡ set skips i (get_or skips i 0 + 1 + get_or skips (p + 1) 0) → p < i + get_or longer i 0
+leads_past skips longer i p e h q =
+    let n : ℕ = get_or skips i 0 + 1 + get_or skips (p + 1) 0 in
+    let s : get_or longer i 0 ≡ n = ap (λ (l : List ℕ). get_or l i 0) q ∙ get_or-set_same skips i n 0 h in
+    omega (arith, e, s)
 
 module _ {T : Type 0} (items : Work → List T) (visited : T → Work → Outcome) where
   -- the visits from place i on, one place further
@@ -67,25 +49,26 @@ module _ {T : Type 0} (items : Work → List T) (visited : T → Work → Outcom
   from_there n i t w x h e p =
       from_more n i w h ∙ ap (λ (q : Option T). visit_one visited q (visit_from items visited (n - (i + 1)) (i + 1)) w) e ∙ ap (λ (z : Outcome). and_then z (visit_from items visited (n - (i + 1)) (i + 1))) (sym p)
 
-  -- a place that is marked may be passed over
-  from_next_mark : (n i : ℕ) (w : Work) (marks : List Bool) → i < n → MarkedBy items visited w marks → get_or marks i false ≡ true → visit_from items visited (n - i) i w ≡ visit_from items visited (n - (i + 1)) (i + 1) w
-  from_next_mark n i w marks h m e =
-      let r = m i e in from_there n i r.0 w (goes w false) h r.1 (sym (r.2 w (later_refl w))) ∙ also_no (visit_from items visited (n - (i + 1)) (i + 1) w)
+  -- an item that is visited in vain may be left out
+  from_vain : (n i : ℕ) (w : Work) → i < n → InVain items visited w i → visit_from items visited (n - i) i w ≡ visit_from items visited (n - (i + 1)) (i + 1) w
+  from_vain n i w h r = from_there n i r.0 w (goes w false) h r.1 (sym (r.2 w (later_refl w))) ∙ also_no (visit_from items visited (n - (i + 1)) (i + 1) w)
 
-  from_marks : (m n i j : ℕ) (w : Work) (marks : List Bool) → j ≡ i + m → j < n → MarkedBy items visited w marks → ((k : ℕ) → i ≤ k → k < j → get_or marks k false ≡ true) → visit_from items visited (n - i) i w ≡ visit_from items visited (n - j) j w
-  from_marks zero n i j w marks e h k f = let p : i ≡ j = omega (arith, e) in ap (λ (z : ℕ). visit_from items visited (n - z) z w) p
-  from_marks (suc m) n i j w marks e h k f =
-      from_next_mark n i w marks (omega (arith, e, h)) k (f i (omega arith) (omega (arith, e))) ∙ from_marks m n (i + 1) j w marks (omega (arith, e)) h k (λ z a b. f z (omega (arith, a)) b)
+  from_row : (m n i j : ℕ) (w : Work) → j ≡ i + m → j < n → ((k : ℕ) → i ≤ k → k < j → InVain items visited w k) → visit_from items visited (n - i) i w ≡ visit_from items visited (n - j) j w
+  from_row zero n i j w e h f = let p : i ≡ j = omega (arith, e) in ap (λ (z : ℕ). visit_from items visited (n - z) z w) p
+  from_row (suc m) n i j w e h f =
+      from_vain n i w (omega (arith, e, h)) (f i (omega arith) (omega (arith, e))) ∙ from_row m n (i + 1) j w (omega (arith, e)) h (λ z a b. f z (omega (arith, a)) b)
 
-  -- and so may all up to the next that is not
-  pub from_marked : (n i j : ℕ) (w : Work) (marks : List Bool) (a : Bool) (o : Outcome) → i ≤ j → j < n → MarkedBy items visited w marks → ((k : ℕ) → i ≤ k → k < j → get_or marks k false ≡ true)
-      → also a (visit_from items visited (n - i) i w) ≡ o → also a (visit_from items visited (n - j) j w) ≡ o
-  from_marked n i j w marks a o l h m f q = sym (ap (also a) (from_marks (j - i) n i j w marks (omega (arith, l)) h m f)) ∙ q
+  -- and so may the items that a skip is over
+  pub over_skip : (n i j : ℕ) (w : Work) (skips : List ℕ) → SkippedBy items visited w skips → i ≤ j → j ≤ i + get_or skips i 0 → j < n → visit_from items visited (n - i) i w ≡ visit_from items visited (n - j) j w
+  over_skip n i j w skips h a b l = from_row (j - i) n i j w (omega (arith, a)) l (λ k x y. h i k x (omega (arith, y, b)))
 
-  pub from_first : (n j : ℕ) (w : Work) (marks : List Bool) → j < n → MarkedBy items visited w marks → ((k : ℕ) → 0 ≤ k → k < j → get_or marks k false ≡ true) → also false (visit_from items visited (n - j) j w) ≡ visit_from items visited n 0 w
-  from_first n j w marks h m f =
-      let e : n - 0 ≡ n = omega arith in
-      also_no (visit_from items visited (n - j) j w) ∙ sym (from_marks j n 0 j w marks (omega arith) h m f) ∙ ap (λ (z : ℕ). visit_from items visited z 0 w) e
+  -- what the visits from place i on come to, those from where the skip leads come to
+  pub from_skip : (n i j : ℕ) (w : Work) (skips : List ℕ) (a : Bool) (o : Outcome) → SkippedBy items visited w skips → j ≡ i + get_or skips i 0 → j < n → also a (visit_from items visited (n - i) i w) ≡ o → also a (visit_from items visited (n - j) j w) ≡ o
+  from_skip n i j w skips a o h e l q = sym (ap (also a) (over_skip n i j w skips h (omega (arith, e)) (omega (arith, e)) l)) ∙ q
+
+  -- those from place 0 on are all, where nothing has changed before
+  pub from_start : (n : ℕ) (w : Work) → also false (visit_from items visited (n - 0) 0 w) ≡ visit_from items visited n 0 w
+  from_start n w = let e : n - 0 ≡ n = omega arith in also_no (visit_from items visited (n - 0) 0 w) ∙ ap (λ (z : ℕ). visit_from items visited z 0 w) e
 
   -- what the visits from place i on come to stays, after the one at i
   pub from_next : (n i : ℕ) (t : T) (w u : Work) (a c : Bool) (o : Outcome) → i < n → slice_get (items w) i ≡ Some t → goes u c ≡ visited t w → also a (visit_from items visited (n - i) i w) ≡ o
@@ -102,14 +85,34 @@ module _ {T : Type 0} (items : Work → List T) (visited : T → Work → Outcom
   from_over n i w a o h e q =
       sym (ap (also a) (from_more n i w h ∙ ap (λ (z : Option T). visit_one visited z (visit_from items visited (n - (i + 1)) (i + 1)) w) e) ∙ ap (goes w) (or_no a)) ∙ q
 
-  -- marks that are right stay so in each later work
-  pub marked_later : ((w u : Work) → Later w u → (i : ℕ) (t : T) → slice_get (items w) i ≡ Some t → slice_get (items u) i ≡ Some t) → (w u : Work) (marks : List Bool) → Later w u → MarkedBy items visited w marks → MarkedBy items visited u marks
-  marked_later stays w u marks l m = λ i e. let r = m i e in (r.0, stays w u l i r.0 r.1, λ v k. r.2 v (later_trans l k))
+  -- a skip from within a list leads no further than to its end
+  pub skip_within : (w : Work) (skips : List ℕ) (i : ℕ) → SkippedBy items visited w skips → i ≤ length (items w) → i + get_or skips i 0 ≤ length (items w)
+  skip_within w skips i h l = by (get_or skips i 0) (λ j. h i j)
+    where
+      by : (n : ℕ) → ((j : ℕ) → i ≤ j → j < i + n → InVain items visited w j) → i + n ≤ length (items w)
+      by zero f = omega (arith, l)
+      by (suc n) f = let r = f (i + n) (omega arith) (omega arith) in omega (arith, nth_within (items w) (i + n) r.0 r.1)
 
-  -- an item may be marked once it is visited in vain; the marks before stay right
-  pub marked_set : ((w u : Work) → Later w u → (i : ℕ) (t : T) → slice_get (items w) i ≡ Some t → slice_get (items u) i ≡ Some t) → (i : ℕ) (t : T) (w u : Work) (marks : List Bool)
-      → slice_get (items w) i ≡ Some t → ((v : Work) → Later u v → visited t v ≡ goes v false) → Later w u → MarkedBy items visited w marks → MarkedBy items visited u (set marks i true)
-  marked_set stays i t w u marks e n l m = λ j q.
-      at_set marks i j (λ z. (x : T) × (slice_get (items u) z ≡ Some x) × ((v : Work) → Later u v → visited x v ≡ goes v false))
-      (marked_later stays w u marks l m j)
-      (t, stays w u l i t e, n) q
+  module _ (stays : (w u : Work) → Later w u → (i : ℕ) (t : T) → slice_get (items w) i ≡ Some t → slice_get (items u) i ≡ Some t) where
+    vain_later : (w u : Work) (i : ℕ) → Later w u → InVain items visited w i → InVain items visited u i
+    vain_later w u i l r = (r.0, stays w u l i r.0 r.1, λ v k. r.2 v (later_trans l k))
+
+    -- skips that are right stay so in each later work
+    pub skipped_later : (w u : Work) (skips : List ℕ) → Later w u → SkippedBy items visited w skips → SkippedBy items visited u skips
+    skipped_later w u skips l h = λ i j a b. vain_later w u j l (h i j a b)
+
+    -- a skip may lead over the item at p to which it leads, and on from there, once that item is visited in vain; the other skips stay right
+    pub skipped_longer : (i p : ℕ) (t : T) (w u : Work) (skips : List ℕ) → p ≡ i + get_or skips i 0 → i < length skips → slice_get (items w) p ≡ Some t → ((v : Work) → Later u v → visited t v ≡ goes v false) → Later w u
+        → SkippedBy items visited w skips → SkippedBy items visited u (set skips i (get_or skips i 0 + 1 + get_or skips (p + 1) 0))
+    skipped_longer i p t w u skips e h s n l m = λ k j a b.
+        ⊎_elim (λ (q : k ≡ i). at_start j (omega (arith, a, q)) (subst (λ z. j < z + get_or (set skips i more) z 0) q b)) (λ (q : k ≡ i → ⊥). skipped_later w u skips l m k j a (subst (λ z. j < k + z) (get_or-set_other skips i k more 0 q) b)) (cases_eq k i)
+      where
+        more : ℕ
+        more = get_or skips i 0 + 1 + get_or skips (p + 1) 0
+
+        at_start : (j : ℕ) → i ≤ j → j < i + get_or (set skips i more) i 0 → InVain items visited u j
+        at_start j a b =
+            let c : j < i + more = subst (λ z. j < i + z) (get_or-set_same skips i more 0 h) b in
+            ⊎_elim (λ (q : j ≡ p). subst (InVain items visited u) (sym q) (t, stays w u l p t s, n))
+            (⊎_elim (λ (q : j < p). skipped_later w u skips l m i j a (omega (arith, q, e))) (λ (q : p < j). skipped_later w u skips l m (p + 1) j (omega (arith, q)) (omega (arith, c, e))))
+            (cases_order j p)

@@ -1,4 +1,4 @@
--- What the contracts of this crate say: what a mark means, the visits to a list, the setting of a pass, and what settling answers.
-pub mod Marked
+-- What the contracts of this crate say: what a skip means, the visits to a list, the setting of a pass, and what settling answers.
+pub mod Skipped
 pub mod Walks
 pub mod Passing

@@ -1,5 +1,5 @@
--- Visits to the items of one list of a state's work, one after another, what they leave, and marks on items. Assumes nothing.
-use Rattle.std.specs.Prelude.{◌≡◌, ℕ, zero, suc, Bool, true, false, List, Some, None, Option, slice_index_or}
+-- Visits to the items of one list of a state's work, one after another, what they leave, and skips over items. Assumes nothing.
+use Rattle.std.specs.Prelude.{◌≡◌, ℕ, zero, suc, false, List, Some, None, Option, ◌+◌, ◌<◌, ◌≤◌, slice_index}
 use Rattle.std.specs.List.{slice_get}
 use Rattle.meaning.specs.declared.parts.Stop.TheVariants.{Crowded}
 use Rattle.meaning.specs.Intervals.{Setting}
@@ -16,9 +16,13 @@ abbrev pub visit_from : {T : Type 0} → (Work → List T) → (T → Work → O
 visit_from items v zero i w = stops Crowded
 visit_from items v (suc n) i w = visit_one v (slice_get (items w) i) (visit_from items v n (suc i)) w
 
--- each mark stands at an item that is visited in vain from now on, to the end of the state
-abbrev pub MarkedBy : {T : Type 0} → (Work → List T) → (T → Work → Outcome) → Work → List Bool → Type 0
-MarkedBy {T} items v w marks = (i : ℕ) → slice_index_or marks i false ≡ true → (t : T) × (slice_get (items w) i ≡ Some t) × ((u : Work) → Later w u → v t u ≡ goes u false)
+-- at place i stands an item that is visited in vain from now on, to the end of the state
+abbrev pub InVain : {T : Type 0} → (Work → List T) → (T → Work → Outcome) → Work → ℕ → Type 0
+InVain {T} items v w i = (t : T) × (slice_get (items w) i ≡ Some t) × ((u : Work) → Later w u → v t u ≡ goes u false)
+
+-- the skip at each place i is over so many items, from i on, that are visited in vain
+abbrev pub SkippedBy : {T : Type 0} → (Work → List T) → (T → Work → Outcome) → Work → List ℕ → Type 0
+SkippedBy items v w skips = (i j : ℕ) → i ≤ j → j < i + slice_index skips i → InVain items v w j
 
 -- what visits leave of the work w: a later work of the state, in order wherever w is, in these settings
 pub record Leaves (within : Setting → Type 0) (w u : Work) : Type 0 where

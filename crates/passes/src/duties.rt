@@ -1,4 +1,5 @@
 // Visits to the duties of a state.
+ghost use Rattle.std.proofs.Common.{rules};
 ghost use Rattle.std.specs.Prelude.{◌≡◌, length, OnOk};
 ghost use Rattle.meaning.specs.Order.{Tidy};
 ghost use Rattle.meaning.specs.Passes.{pass_fuel, visit_duties};
@@ -6,7 +7,7 @@ ghost use Rattle.meaning.specs.Rules.{visit};
 ghost use Rattle.board.specs.Answers.{told};
 ghost use Rattle.board.specs.Held.{held};
 ghost use Rattle.passes.specs.Passing.{setting_of};
-ghost use Rattle.passes.specs.Marked.{Marked};
+ghost use Rattle.passes.specs.Skipped.{Skipped};
 ghost use Rattle.passes.specs.Walks.{Leaves};
 
 use crate::parts::Pass;
@@ -28,6 +29,8 @@ impl<'a, F: Feed> Visits<Duty> for Pass<'a, F> {
 
     ghost visited = { λ p d. visit (setting_of F.Feed.readings p) p.state d };
 
+    ghost small = { Prim.search rules };
+
     ghost stays = { λ w u l i t e. l.duties i t e };
 
     fn item(&self, board: &Board, place: usize) -> Option<Duty> {
@@ -45,15 +48,15 @@ impl<'a, F: Feed> Pass<'a, F> {
         &self,
         board: &mut Board,
         memo: &mut Memo,
-        marks: &mut [bool],
+        skips: &mut [u16],
     ) -> Result<bool, Stop>
         requires tidy { Tidy (setting_of F.Feed.readings self.now) (held board.old) }
-        requires marked { Marked (setting_of F.Feed.readings self.now) self.now.state (held board.old) marks.old }
-        requires long { length marks.old ≡ 512 }
+        requires skipped { Skipped (setting_of F.Feed.readings self.now) self.now.state (held board.old) skips.old }
+        requires long { length skips.old ≡ 513 }
         ensures visited { told result (held board.new) ≡ visit_duties (setting_of F.Feed.readings self.now) self.now.state pass_fuel 0 (held board.old) }
-        ensures marked { OnOk result (Marked (setting_of F.Feed.readings self.now) self.now.state (held board.new) marks.new) }
+        ensures skipped { OnOk result (Skipped (setting_of F.Feed.readings self.now) self.now.state (held board.new) skips.new) }
         ensures leaves { OnOk result (Leaves (λ S. S ≡ setting_of F.Feed.readings self.now) (held board.old) (held board.new)) }
     {
-        visit_all::<Duty, Pass<'a, F>>(self, board, memo, marks)
+        visit_all::<Duty, Pass<'a, F>>(self, board, memo, skips)
     }
 }

@@ -2,11 +2,11 @@
 #![tactic(auto)]
 
 mod duties;
-mod marks;
 mod parts;
 mod settling;
+mod skips;
 mod spans;
 mod visits;
 
-pub use crate::marks::Marks;
 pub use crate::settling::settle;
+pub use crate::skips::Skips;

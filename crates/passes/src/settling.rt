@@ -6,10 +6,10 @@ ghost use Rattle.meaning.specs.Passes.{pass, Settles};
 ghost use Rattle.board.specs.Answers.{told};
 ghost use Rattle.board.specs.Held.{held, sheet_of};
 ghost use Rattle.passes.specs.Passing.{setting_of, rested};
-ghost use Rattle.passes.specs.Marked.{Marked, MarkedSpans};
+ghost use Rattle.passes.specs.Skipped.{Skipped, SkippedSpans};
 
-use crate::marks::{Marks, clear};
 use crate::parts::Pass;
+use crate::skips::{Skips, clear};
 use board::{Board, after};
 use feed::Feed;
 use meaning::Stop;
@@ -22,7 +22,7 @@ pub fn settle<F: Feed>(
     sheet: &Sheet,
     feed: &F,
     memo: &mut Memo,
-    marks: &mut Marks,
+    skips: &mut Skips,
     state: u32,
 ) -> Result<(), Stop>
     requires { Tidy (under (sheet_of sheet.now) (F.Feed.readings feed.now)) (held board.old) }
@@ -30,9 +30,9 @@ pub fn settle<F: Feed>(
     ensures tidy { OnOk result (Tidy (under (sheet_of sheet.now) (F.Feed.readings feed.now)) (held board.new)) }
 {
     let pass = Pass { sheet, feed, state };
-    clear(&mut marks.duties);
-    clear(&mut marks.spans);
-    while pass.visit_both(board, memo, marks)? {}
+    clear(&mut skips.duties);
+    clear(&mut skips.spans);
+    while pass.visit_both(board, memo, skips)? {}
     Ok(())
 }
 
@@ -42,16 +42,16 @@ impl<'a, F: Feed> Pass<'a, F> {
         &self,
         board: &mut Board,
         memo: &mut Memo,
-        marks: &mut Marks,
+        skips: &mut Skips,
     ) -> Result<bool, Stop>
         requires tidy { Tidy (setting_of F.Feed.readings self.now) (held board.old) }
-        requires marked { Marked (setting_of F.Feed.readings self.now) self.now.state (held board.old) marks.old.duties.items }
-        requires marked_spans { MarkedSpans (held board.old) marks.old.spans.items }
+        requires skipped { Skipped (setting_of F.Feed.readings self.now) self.now.state (held board.old) skips.old.duties.items }
+        requires skipped_spans { SkippedSpans (held board.old) skips.old.spans.items }
         ensures visited { told result (held board.new) ≡ pass (setting_of F.Feed.readings self.now) self.now.state (held board.old) }
-        ensures marked { OnOk result (Marked (setting_of F.Feed.readings self.now) self.now.state (held board.new) marks.new.duties.items) }
-        ensures marked_spans { OnOk result (MarkedSpans (held board.new) marks.new.spans.items) }
+        ensures skipped { OnOk result (Skipped (setting_of F.Feed.readings self.now) self.now.state (held board.new) skips.new.duties.items) }
+        ensures skipped_spans { OnOk result (SkippedSpans (held board.new) skips.new.spans.items) }
     {
-        let changed = self.visit_duties(board, memo, &mut marks.duties)?;
-        after(changed, self.visit_spans(board, memo, &mut marks.spans))
+        let changed = self.visit_duties(board, memo, &mut skips.duties)?;
+        after(changed, self.visit_spans(board, memo, &mut skips.spans))
     }
 }

@@ -1,4 +1,5 @@
 // Visits to the spans of a state.
+ghost use Rattle.std.proofs.Common.{rules};
 ghost use Rattle.std.specs.Prelude.{◌≡◌, length, OnOk};
 ghost use Rattle.std.specs.Bool.{⊤};
 ghost use Rattle.meaning.specs.Intervals.{Setting};
@@ -7,7 +8,7 @@ ghost use Rattle.meaning.specs.Passes.{visit_spans};
 ghost use Rattle.meaning.specs.Rules.{visit_span};
 ghost use Rattle.board.specs.Answers.{told};
 ghost use Rattle.board.specs.Held.{held};
-ghost use Rattle.passes.specs.Marked.{MarkedSpans};
+ghost use Rattle.passes.specs.Skipped.{SkippedSpans};
 ghost use Rattle.passes.specs.Walks.{Leaves};
 
 use crate::parts::Pass;
@@ -29,19 +30,16 @@ impl<'a, F: Feed> Visits<Span> for Pass<'a, F> {
 
     ghost visited = { λ p t. visit_span t };
 
+    ghost small = { Prim.search rules };
+
     ghost stays = { λ w u l i t e. l.spans i t e };
 
     fn item(&self, board: &Board, place: usize) -> Option<Span> {
         board.span(place)
     }
 
-    // A visit to a span that changes something is the last that does, in this state.
     fn visit(&self, board: &mut Board, _memo: &mut Memo, item: Span) -> Result<Visited, Stop> {
-        let changed = rules::visit_span(board, item)?;
-        Ok(Visited {
-            changed,
-            done: changed,
-        })
+        rules::visit_span(board, item)
     }
 }
 
@@ -51,15 +49,15 @@ impl<'a, F: Feed> Pass<'a, F> {
         &self,
         board: &mut Board,
         memo: &mut Memo,
-        marks: &mut [bool],
+        skips: &mut [u16],
     ) -> Result<bool, Stop>
         requires tidy { (S : Setting) × Tidy S (held board.old) }
-        requires marked { MarkedSpans (held board.old) marks.old }
-        requires long { length marks.old ≡ 64 }
+        requires skipped { SkippedSpans (held board.old) skips.old }
+        requires long { length skips.old ≡ 65 }
         ensures visited { told result (held board.new) ≡ visit_spans (held board.old).spans (held board.old) }
-        ensures marked { OnOk result (MarkedSpans (held board.new) marks.new) }
+        ensures skipped { OnOk result (SkippedSpans (held board.new) skips.new) }
         ensures leaves { OnOk result (Leaves (λ S. ⊤) (held board.old) (held board.new)) }
     {
-        visit_all::<Span, Pass<'a, F>>(self, board, memo, marks)
+        visit_all::<Span, Pass<'a, F>>(self, board, memo, skips)
     }
 }

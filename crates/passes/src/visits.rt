@@ -1,14 +1,15 @@
 // What a pass visits, and the visits from first to last.
-ghost use Rattle.std.specs.Prelude.{◌≡◌, ℕ, suc, ◌≤◌, ◌<◌, true, false, not, List, length, slice_index_or, Some as some, IfOk, OnOk};
-ghost use Rattle.std.specs.List.{slice_get, position};
+ghost use Rattle.std.specs.Prelude.{◌≡◌, ℕ, suc, ◌≤◌, ◌<◌, true, false, List, length, Some as some, IfOk, OnOk};
+ghost use Rattle.std.specs.List.{slice_get};
 ghost use Rattle.meaning.specs.Intervals.{Setting};
 ghost use Rattle.meaning.specs.Order.{Tidy, Later};
 ghost use Rattle.meaning.specs.Work.{Work, Outcome, goes};
 ghost use Rattle.board.specs.Answers.{told};
 ghost use Rattle.board.specs.Held.{held};
 ghost use Rattle.rules.specs.Visits.{changed};
-ghost use Rattle.passes.specs.Walks.{visit_from, MarkedBy, Leaves};
+ghost use Rattle.passes.specs.Walks.{visit_from, SkippedBy, Leaves};
 
+use crate::skips::{lengthen, next_place};
 use board::Board;
 use meaning::Stop;
 use rules::Visited;
@@ -41,72 +42,40 @@ pub(crate) trait Visits<T> {
         ensures leaves { OnOk result (Leaves (within self.now) (held board.old) (held board.new)) }
         ensures vain { IfOk result (λ r. r.done ≡ true → (v : Work) → Later (held board.new) v → visited self.now item v ≡ goes v false) };
 
+    // A skip over all of them fits.
+    ghost small: { most < 65536 };
+
     // An item keeps its place, to the end of the state.
     ghost stays: { (w u : Work) → Later w u → (i : ℕ) (t : T) → slice_get (items w) i ≡ some t → slice_get (items u) i ≡ some t };
 }
 
-// The first place that is not marked, if there is one.
-fn first_unmarked(marks: &[bool]) -> Option<usize>
-    ensures { result ≡ position not marks.now }
-{
-    marks.iter().position(|marked| !marked)
-}
-
-// The first place from this one on that is not marked, or the end of the marks.
-fn next_place(marks: &[bool], place: usize) -> usize
-    requires { place ≤ length marks.now }
-    ensures further { place ≤ result }
-    ensures inside { result ≤ length marks.now }
-    ensures marked { (i : ℕ) → place ≤ i → i < result → slice_index_or marks.now i false ≡ true }
-{
-    let rest = &marks[place..];
-    place + first_unmarked(rest).unwrap_or(rest.len())
-}
-
-// The visit to the item at a place, which is marked where the visit is done.
-fn visit_at<T: Copy, P: Visits<T>>(
-    pass: &P,
-    board: &mut Board,
-    memo: &mut Memo,
-    marks: &mut [bool],
-    place: usize,
-    item: T,
-) -> Result<bool, Stop>
-    requires tidy { (S : Setting) × P.within pass.now S × Tidy S (held board.old) }
-    requires there { slice_get (P.items (held board.old)) place ≡ some item }
-    requires marked { MarkedBy P.items (P.visited pass.now) (held board.old) marks.old }
-    requires inside { place < length marks.old }
-    ensures visited { told result (held board.new) ≡ P.visited pass.now item (held board.old) }
-    ensures marked { OnOk result (MarkedBy P.items (P.visited pass.now) (held board.new) marks.new) }
-    ensures leaves { OnOk result (Leaves (P.within pass.now) (held board.old) (held board.new)) }
-{
-    let visit = pass.visit(board, memo, item)?;
-    if visit.done {
-        marks[place] = true;
-    }
-    Ok(visit.changed)
-}
-
-// Visits to the items from first to last, to those that are added meanwhile too. Where a place is marked the visit is left out, since it would change nothing.
+// Visits to the items from first to last, to those that are added meanwhile too. Where an item is skipped the visit is left out, since it would change nothing.
 pub(crate) fn visit_all<T: Copy, P: Visits<T>>(
     pass: &P,
     board: &mut Board,
     memo: &mut Memo,
-    marks: &mut [bool],
+    skips: &mut [u16],
 ) -> Result<bool, Stop>
     requires tidy { (S : Setting) × P.within pass.now S × Tidy S (held board.old) }
-    requires marked { MarkedBy P.items (P.visited pass.now) (held board.old) marks.old }
-    requires long { length marks.old ≡ P.most }
+    requires skipped { SkippedBy P.items (P.visited pass.now) (held board.old) skips.old }
+    requires long { length skips.old ≡ suc P.most }
     ensures visited { told result (held board.new) ≡ visit_from P.items (P.visited pass.now) (suc P.most) 0 (held board.old) }
-    ensures marked { OnOk result (MarkedBy P.items (P.visited pass.now) (held board.new) marks.new) }
+    ensures skipped { OnOk result (SkippedBy P.items (P.visited pass.now) (held board.new) skips.new) }
     ensures leaves { OnOk result (Leaves (P.within pass.now) (held board.old) (held board.new)) }
 {
     let mut changed = false;
+    let mut from = 0;
     // No `for` over the places: the list may grow, and only the list itself says that no item is left.
-    let mut place = next_place(marks, 0);
+    let mut place = next_place(skips, from);
     while let Some(item) = pass.item(board, place) {
-        changed |= visit_at(pass, board, memo, marks, place, item)?;
-        place = next_place(marks, place + 1);
+        let visit = pass.visit(board, memo, item)?;
+        changed |= visit.changed;
+        if visit.done {
+            lengthen(skips, from, place);
+        } else {
+            from = place + 1;
+        }
+        place = next_place(skips, from);
     }
     Ok(changed)
 }

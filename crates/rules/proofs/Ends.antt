@@ -1,14 +1,19 @@
--- What is known of an end, after a duty is added.
-use Rattle.std.proofs.Common.{◌≡◌, ℕ, Bool, true, false, ltb, length, sym, refl, ap, ◌∙◌, subst, Ok, Err, Result}
+-- What is known of an end, after a duty is added or a span put on.
+use Rattle.std.proofs.Common.{◌≡◌, ℕ, Bool, true, false, eqb, ltb, length, sym, refl, ap, ◌∙◌, subst, Ok, Err, Result, IfOk}
 use Rattle.std.proofs.lemmas.Bool.{cond_both}
 use Rattle.value.specs.declared.parts.End.{End}
+use Rattle.value.specs.declared.parts.End.TheVariants.{Unknown, On, Last}
 use Rattle.meaning.specs.declared.parts.Duty.{Duty}
 use Rattle.meaning.specs.declared.parts.Stop.{Stop}
 use Rattle.meaning.specs.Work.{Work, Outcome, goes, unchanged, also, and_then, has_duty}
-use Rattle.meaning.specs.Effects.{most_duties, with_duty, if_room, add, carry}
+use Rattle.meaning.specs.Effects.{most_duties, with_duty, if_room, put_by, add, carry}
 use Rattle.meaning.specs.Rules.{when_on}
+use Rattle.meaning.specs.Runs.{is_ended}
 use Rattle.meaning.proofs.Kept.{OfWork}
+use Rattle.meaning.proofs.Spending.{of_more}
 use Rattle.board.specs.Answers.{told, afterwards}
+use Rattle.rules.specs.declared.parts.Visited.{Visited}
+use Rattle.rules.specs.Visits.{changed}
 
 -- to add a duty changes no end
 add_ends : (d : Duty) (w : Work) → OfWork (λ u. u.ends ≡ w.ends) (add d w)
@@ -19,6 +24,25 @@ add_ends d w =
     by : (b : Bool) → OfWork (λ u. u.ends ≡ w.ends) (if_room b (with_duty d w))
     by true = refl
     by false = tt
+
+-- an outcome after which the end of s is known
+abbrev Ended : ℕ → Outcome → Type 0
+Ended s o = OfWork (λ u. is_ended (u.ends s) ≡ true) o
+
+-- an end that is known stays so where a span is put on
+pub put_ended : (p s o : ℕ) (c : End) (w : Work) → is_ended (w.ends s) ≡ true → Ended s (put_by p c On o w)
+put_ended p s o Unknown w e = cond_both (eqb o s) On (w.ends s) (λ c. is_ended c ≡ true) (λ _. refl) (λ _. e)
+put_ended p s o On w e = e
+put_ended p s o Last w e = tt
+
+-- and where a duty is added
+pub add_ended : (d : Duty) (s : ℕ) (w : Work) → is_ended (w.ends s) ≡ true → Ended s (add d w)
+add_ended d s w e = of_more (λ u. u.ends ≡ w.ends) (λ u. is_ended (u.ends s) ≡ true) (add d w) (λ u q. ap (λ (f : ℕ → End). is_ended (f s)) q ∙ e) (add_ends d w)
+
+-- so a visit that is done, where the end was known, leaves it known
+pub done_ended : (a : Result Visited Stop) (r : Result Bool Stop) (s : ℕ) (u : Work) (o : Outcome) → changed a ≡ r → told r u ≡ o → IfOk a (λ v. v.done ≡ true) → Ended s o → IfOk a (λ v. v.done ≡ is_ended (u.ends s))
+done_ended (Ok v) r s u o c e d h = d ∙ sym (subst (Ended s) (sym (ap (λ (q : Result Bool Stop). told q u) c ∙ e)) h)
+done_ended (Err x) r s u o c e d h = tt
 
 -- an answer where something has changed before
 told_also : (b : Bool) (r : Result Bool Stop) (v : Work) → told (afterwards b r) v ≡ also b (told r v)

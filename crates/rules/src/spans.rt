@@ -1,11 +1,16 @@
 // A visit to a span.
-ghost use Rattle.std.specs.Prelude.{◌≡◌};
+ghost use Rattle.std.specs.Prelude.{◌≡◌, not, IfOk};
 ghost use Rattle.meaning.specs.Order.{Lives, Nested};
 ghost use Rattle.meaning.specs.Rules.{take_last, hand_on, visit_span};
+ghost use Rattle.meaning.specs.Runs.{is_ended};
+ghost use Rattle.meaning.specs.Waiting.{span_waits};
 ghost use Rattle.board.specs.Answers.{told};
 ghost use Rattle.board.specs.Held.{held};
+ghost use Rattle.rules.specs.Visits.{changed};
 
-use board::{Board, after};
+use crate::parts::{Visited, WAITING};
+use crate::plain::done;
+use board::Board;
 use meaning::{Opening, Span, Stop};
 use value::End;
 
@@ -20,29 +25,33 @@ fn take_last(board: &mut Board, opening: Opening, serial: u32) -> Result<bool, S
     }
 }
 
-// The span gives "on" to the one that it lies in, or, once it is last, adds what follows it.
-fn hand_on(board: &mut Board, opening: Opening, serial: u32) -> Result<bool, Stop>
+// The span gives "on" to the one that it lies in, or, once it is last, adds what follows it. It waits for its end.
+fn hand_on(board: &mut Board, opening: Opening, serial: u32) -> Result<Visited, Stop>
     requires { Lives (held board.old).spans opening.follower.span }
-    ensures { told result (held board.new) ≡ hand_on ((held board.old).ends serial) opening (held board.old) }
+    ensures visited { told (changed result) (held board.new) ≡ hand_on ((held board.old).ends serial) opening (held board.old) }
+    ensures done { IfOk result (λ v. v.done ≡ is_ended ((held board.new).ends serial)) }
 {
     match board.end_of(serial) {
-        End::Unknown => Ok(false),
-        End::On => board.put(opening.by, End::On, opening.follower.span),
-        End::Last => board.add(opening.follower),
+        End::Unknown => Ok(WAITING),
+        End::On => done(board.put(opening.by, End::On, opening.follower.span)),
+        End::Last => done(board.add(opening.follower)),
     }
 }
 
 // A visit to a span. The whole interval has nothing around it.
-pub fn visit_span(board: &mut Board, span: Span) -> Result<bool, Stop>
+pub fn visit_span(board: &mut Board, span: Span) -> Result<Visited, Stop>
     requires own { Lives (held board.old).spans span.serial }
     requires outer { Nested (held board.old).spans span.serial span.opening }
-    ensures { told result (held board.new) ≡ visit_span span (held board.old) }
+    ensures visited { told (changed result) (held board.new) ≡ visit_span span (held board.old) }
+    ensures done { IfOk result (λ v. v.done ≡ not (span_waits span (held board.new))) }
 {
     let Some(opening) = span.opening else {
-        return Ok(false);
+        return done(Ok(false));
     };
-    after(
-        take_last(board, opening, span.serial)?,
-        hand_on(board, opening, span.serial),
-    )
+    let taken = take_last(board, opening, span.serial)?;
+    let handed = hand_on(board, opening, span.serial)?;
+    Ok(Visited {
+        changed: taken || handed.changed,
+        done: handed.done,
+    })
 }

@@ -4,7 +4,7 @@ ghost use Rattle.board.specs.Held.{store};
 ghost use Rattle.states.specs.Ready.{ready};
 
 use board::Board;
-use passes::Marks;
+use passes::Skips;
 use value::Memo;
 
 // Settles states one after another. All memory is reserved when it is made.
@@ -12,7 +12,7 @@ use value::Memo;
 pub struct Settler {
     pub(crate) board: Board,
     pub(crate) memo: Memo,
-    pub(crate) marks: Marks,
+    pub(crate) skips: Skips,
     // the number of the next state
     pub(crate) state: u32,
     ghost ready: { ready (store board) ≡ true },

@@ -14,7 +14,7 @@ use crate::settler::Settler;
 use board::Board;
 use feed::Feed;
 use meaning::{LeftOpen, Stop};
-use passes::Marks;
+use passes::Skips;
 use sheet::Sheet;
 use std::alloc::{AllocError, Global};
 use value::{End, Memo};
@@ -42,7 +42,7 @@ fn settle<F: Feed>(
     sheet: &Sheet,
     feed: &F,
     memo: &mut Memo,
-    marks: &mut Marks,
+    skips: &mut Skips,
     state: u32,
 ) -> Result<Settled, Stop>
     requires { Tidy (under (sheet_of sheet.now) (F.Feed.readings feed.now)) (held board.old) }
@@ -50,7 +50,7 @@ fn settle<F: Feed>(
     ensures settles { OnOk result (Settles (under (sheet_of sheet.now) (F.Feed.readings feed.now)) state (held board.old) (goes (held board.new) false)) }
     ensures fitting { IfOk result (λ x. all_small (take (vec_len sheet.now.tables.variables) x.numbers) ≡ true) }
 {
-    passes::settle(board, sheet, feed, memo, marks, state)?;
+    passes::settle(board, sheet, feed, memo, skips, state)?;
     judged(board, sheet.tables.variables.len())
 }
 
@@ -62,11 +62,11 @@ impl Settler {
     {
         let board = Board::new(heap)?;
         let memo = Memo::new(heap)?;
-        let marks = Marks::new(heap)?;
+        let skips = Skips::new(heap)?;
         Ok(Settler {
             board,
             memo,
-            marks,
+            skips,
             state: 0,
         })
     }
@@ -100,7 +100,7 @@ impl Settler {
             sheet,
             feed,
             &mut self.memo,
-            &mut self.marks,
+            &mut self.skips,
             self.state,
         );
         match settled {

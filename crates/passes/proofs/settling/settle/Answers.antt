@@ -30,8 +30,8 @@ loop-preserved g c =
     record {
       going = λ o h. c.loop.invariant.going o (goes_on S c.args.state w u b.field-0 o (search rules) b.ensures.visited h);
       tidy = (pass_keeps S (limits_of c.args.sheet.now) c.args.state w u b.field-0 c.loop.invariant.tidy b.ensures.visited).0;
-      marked = b.ensures.marked;
-      marked_spans = b.ensures.marked_spans;
+      skipped = b.ensures.skipped;
+      skipped_spans = b.ensures.skipped_spans;
     }
 
 pub returns-clause-settles : goal.returns-clause-settles

@@ -4,7 +4,7 @@ use Rattle.meaning.specs.Order.{Tidy}
 use Rattle.meaning.specs.Passes.{Settles}
 use Rattle.meaning.proofs.Fall.{left}
 use Rattle.board.specs.Held.{held, sheet_of}
-use Rattle.passes.specs.Marked.{Marked, MarkedSpans}
+use Rattle.passes.specs.Skipped.{Skipped, SkippedSpans}
 use Rattle.passes.proofs.settling.settle.Given as goal
 
 -- what settles the work that is left settles the first one
@@ -14,8 +14,8 @@ invariant-loop g l =
     record {
       going : (o : Outcome) → Settles S l.state (held l.board) o → Settles S l.state (held l.initial.board) o;
       tidy : Tidy S (held l.board);
-      marked : Marked S l.state (held l.board) l.marks.duties.items;
-      marked_spans : MarkedSpans (held l.board) l.marks.spans.items;
+      skipped : Skipped S l.state (held l.board) l.skips.duties.items;
+      skipped_spans : SkippedSpans (held l.board) l.skips.spans.items;
     }
 
 -- how much is left to find out

@@ -1,9 +1,8 @@
 -- A span of the list lives, and so does the one that it lies in.
-use Rattle.std.proofs.Common.{sym, ap, ◌∙◌}
-use Rattle.meaning.specs.Work.{goes}
+use Rattle.meaning.specs.Rules.{visit_span}
 use Rattle.meaning.proofs.Lists.{nth_in}
 use Rattle.board.specs.Held.{held}
-use Rattle.passes.proofs.Keeping.{span_lives, span_later, span_tidy}
+use Rattle.passes.proofs.Keeping.{told_ok, span_lives, span_later, span_tidy}
 use Rattle.passes.proofs.Vain.{span_vain}
 use Rattle.passes.proofs.spans.PassVisitsSpan.visit.Goals as goal
 
@@ -15,16 +14,17 @@ visit_span-requires-clause-outer g c = c.requires.tidy.2.nested c.args.item (nth
 
 pub returns-clause-leaves : goal.returns-clause-leaves
 returns-clause-leaves g c =
-    let w = held c.args.board.now in
-    let u = held c.visit_span.new.board in
-    record {
-      tidy = λ S m t. span_tidy S c.requires.there.0 c.args.item w u c.in_ok-changed.changed t c.requires.there.1 c.in_ok-changed.ensures;
-      later = span_later c.requires.tidy.0 c.args.item w u c.in_ok-changed.changed c.in_ok-changed.ensures;
-    }
-
-pub returns-clause-vain : goal.returns-clause-vain
-returns-clause-vain g c =
     let t = c.args.item in
     let w = held c.args.board.now in
     let u = held c.visit_span.new.board in
-    λ e. span_vain c.requires.tidy.0 c.requires.there.0 t w u c.requires.tidy.2 c.requires.there.1 (ap (goes u) (sym e) ∙ c.in_ok-changed.ensures)
+    told_ok c.visit_span.result u (visit_span t w) _ c.visit_span.ensures.visited
+    (λ b e. record {
+      tidy = λ S m y. span_tidy S c.requires.there.0 t w u b y c.requires.there.1 e;
+      later = span_later c.requires.tidy.0 t w u b e;
+    })
+
+pub returns-clause-vain : goal.returns-clause-vain
+returns-clause-vain g c =
+    let w = held c.args.board.now in
+    let u = held c.visit_span.new.board in
+    span_vain c.requires.tidy.0 c.requires.there.0 c.args.item w u c.visit_span.result c.requires.tidy.2 c.requires.there.1 c.visit_span.ensures.visited c.visit_span.ensures.done
