@@ -7,16 +7,16 @@ use Rattle.text.specs.Decimals.{natural_of, number_of}
 use Rattle.text.proofs.Numbers.{natural_is, natural_some, number_is, number_some}
 use Rattle.feed.specs.declared.list.Reading.{Reading}
 use Rattle.script.specs.Spelling.{reading_words, SmallReading}
-use Rattle.script.specs.Words.{on_word, at_end, reading_in}
+use Rattle.script.specs.Words.{on_word, at_end, reading_in, count_in}
 
 -- there was a word
-word_some : {X P : Type 0} (f : List ℕ → List (List ℕ) → Option X) (ws : List (List ℕ)) (y : X) → on_word f ws ≡ Some y
+pub word_some : {X P : Type 0} (f : List ℕ → List (List ℕ) → Option X) (ws : List (List ℕ)) (y : X) → on_word f ws ≡ Some y
     → ((w : List ℕ) (us : List (List ℕ)) → ws ≡ w ∷ us → f w us ≡ Some y → P) → P
 word_some f [] y e go = absurd (none-some y e)
 word_some f (w ∷ us) y e go = go w us refl e
 
 -- no word was left
-end_some : {X : Type 0} (x y : X) (ws : List (List ℕ)) → at_end x ws ≡ Some y → (ws ≡ []) × (x ≡ y)
+pub end_some : {X : Type 0} (x y : X) (ws : List (List ℕ)) → at_end x ws ≡ Some y → (ws ≡ []) × (x ≡ y)
 end_some x y [] e = (refl, same_Some x y e)
 end_some x y (w ∷ ws) e = absurd (none-some y e)
 
@@ -44,3 +44,16 @@ reading_read ws r e s =
     ∙ ap (option_and_then _) (count_read r.state s.0)
     ∙ ap (option_and_then _) (count_read r.variable s.1)
     ∙ ap (option_and_then _) (number_some 1000000 (signed_decimal r.number) r.number (omega arith) refl s.2)
+
+-- the only word is that of the number that was read
+pub count_is : (ws : List (List ℕ)) (n : ℕ) → count_in ws ≡ Some n → (ws ≡ decimal n ∷ []) × (n ≤ 1000000)
+count_is ws n e =
+    word_some _ ws n e (λ w us a e. option_and_then_some _ (natural_of 1000000 w) n e (λ k p e.
+    let i = natural_is 1000000 w k p in
+    let d = end_some k n us e in
+    let word : ws ≡ decimal k ∷ [] = cc in
+    subst (λ (m : ℕ). (ws ≡ decimal m ∷ []) × (m ≤ 1000000)) d.1 (word, i.1)))
+
+-- and a number is read back from its word
+pub count_back : (n : ℕ) → n ≤ 1000000 → count_in (decimal n ∷ []) ≡ Some n
+count_back n h = ap (option_and_then _) (count_read n h)
