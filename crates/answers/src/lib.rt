@@ -4,3 +4,6 @@
 mod answer;
 
 pub use crate::answer::Answer;
+
+#[cfg(test)]
+mod tests;
