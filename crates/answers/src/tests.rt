@@ -19,7 +19,7 @@ fn stopped(stop: Stop) -> Cause {
 
 // The answers of the calls that settle no state.
 #[test]
-fn brief_calls(rt: HostRuntime) -> Result<(), Fail> {
+fn other_calls(rt: HostRuntime) -> Result<(), Fail> {
     let heap = rt.alloc();
     let fault = NotLoaded::Refused(Refusal::Line(1041, Fault::Number(3)));
     assert!(rt; says(heap, Answer::Load(Err(fault)), "sheet=refused 8 1041 3")?);
