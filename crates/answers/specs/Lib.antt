@@ -1,0 +1,2 @@
+-- What the contracts of this crate say: the line of an answer.
+pub mod Lines

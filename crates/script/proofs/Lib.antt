@@ -1,0 +1,3 @@
+-- Lemmas that the proofs of this crate use.
+mod Spelled
+mod Plain

@@ -1,0 +1,3 @@
+-- What the contracts of this crate say: how the lines of a script are spelled.
+pub mod Spelling
+pub mod Words
