@@ -1,4 +1,6 @@
 // Cuts a table into its examples.
+ghost use Rattle.std.specs.Prelude.{◌≡◌, ◌+◌, ◌-◌, ◌==◌, count_by, drop, take};
+
 use crate::parts::{Part, part_of};
 use feed::Reading;
 use script::read_reading;
@@ -19,7 +21,9 @@ pub struct Example<'a> {
 }
 
 // The number of the line at which a reader stands, counted from 1.
-pub fn line_number(reader: &Reader<'_>) -> usize {
+pub fn line_number(reader: &Reader<'_>) -> usize
+    ensures { result ≡ count_by (λ b. b == 10) (take reader.now.place reader.now.text.now) + 1 }
+{
     let passed = reader.text.get(..reader.place).unwrap_or(reader.text);
     passed.iter().filter(|b| **b == b'\n').count() + 1
 }
@@ -35,7 +39,9 @@ fn says(line: &[u8], part: Part) -> bool {
 }
 
 // The next line if it says this. Else the place is kept.
-fn line_with<'a>(reader: &mut Reader<'a>, part: Part) -> Option<&'a [u8]> {
+fn line_with<'a>(reader: &mut Reader<'a>, part: Part) -> Option<&'a [u8]>
+    ensures { reader.new.text ≡ reader.old.text }
+{
     let place = reader.place;
     match reader.line() {
         Some(line) if says(line, part) => Some(line),
@@ -47,13 +53,17 @@ fn line_with<'a>(reader: &mut Reader<'a>, part: Part) -> Option<&'a [u8]> {
 }
 
 // The lines from a place on up to that of the reader.
-fn lines_from<'a>(reader: &Reader<'a>, start: usize) -> &'a [u8] {
+fn lines_from<'a>(reader: &Reader<'a>, start: usize) -> &'a [u8]
+    ensures { result.now ≡ take (reader.now.place - start) (drop start reader.now.text.now) }
+{
     let end = reader.place.min(reader.text.len());
     reader.text.get(start..end).unwrap_or(&[])
 }
 
 // The lines from the place on that say this.
-fn lines_with<'a>(reader: &mut Reader<'a>, part: Part) -> &'a [u8] {
+fn lines_with<'a>(reader: &mut Reader<'a>, part: Part) -> &'a [u8]
+    ensures { reader.new.text ≡ reader.old.text }
+{
     let start = reader.place;
     for _ in 0..u64::MAX {
         if line_with(reader, part).is_none() {
@@ -64,7 +74,9 @@ fn lines_with<'a>(reader: &mut Reader<'a>, part: Part) -> &'a [u8] {
 }
 
 // The lines from the place on that close a run: one with a verdict or a refusal, and those that are behind it. None where there is no such line.
-fn closing_lines<'a>(reader: &mut Reader<'a>) -> Option<&'a [u8]> {
+fn closing_lines<'a>(reader: &mut Reader<'a>) -> Option<&'a [u8]>
+    ensures { reader.new.text ≡ reader.old.text }
+{
     let start = reader.place;
     line_with(reader, Part::Closing)?;
     lines_with(reader, Part::Other);
@@ -72,7 +84,9 @@ fn closing_lines<'a>(reader: &mut Reader<'a>) -> Option<&'a [u8]> {
 }
 
 // The example that starts at the place, up to the empty line or the end of the table that ends it. None where the line at the place is not in order.
-fn read_block<'a>(reader: &mut Reader<'a>) -> Option<Example<'a>> {
+fn read_block<'a>(reader: &mut Reader<'a>) -> Option<Example<'a>>
+    ensures { reader.new.text ≡ reader.old.text }
+{
     let name = line_with(reader, Part::Name)?.strip_prefix(b"example=")?;
     lines_with(reader, Part::Formula);
     let sheet = lines_with(reader, Part::Other);
@@ -92,7 +106,9 @@ fn read_block<'a>(reader: &mut Reader<'a>) -> Option<Example<'a>> {
 }
 
 // Goes on behind the next empty line.
-fn pass_over(reader: &mut Reader<'_>) {
+fn pass_over(reader: &mut Reader<'_>)
+    ensures { reader.new.text ≡ reader.old.text }
+{
     for _ in 0..u64::MAX {
         if reader.line().is_none_or(|line| line.is_empty()) {
             break;
@@ -102,7 +118,9 @@ fn pass_over(reader: &mut Reader<'_>) {
 
 // The next example of a table, or none where only empty lines are left.
 // Where one is malformed, the answer is the number of the line that is not in order, and the rest of the example is passed over.
-pub fn next_example<'a>(reader: &mut Reader<'a>) -> Option<Result<Example<'a>, usize>> {
+pub fn next_example<'a>(reader: &mut Reader<'a>) -> Option<Result<Example<'a>, usize>>
+    ensures { reader.new.text ≡ reader.old.text }
+{
     lines_with(reader, Part::End);
     if reader.place >= reader.text.len() {
         return None;

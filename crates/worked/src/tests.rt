@@ -33,15 +33,27 @@ fn malformed(table: &[u8]) -> usize {
 fn blocks(rt: HostRuntime) {
     assert_eq!(rt; malformed(b"sheet=2\nverdict=open\n"), 1);
     assert_eq!(rt; malformed(b"\n\nexample=a\nsheet=2\n\n"), 5);
-    assert_eq!(rt; malformed(b"example=a\nsheet=2\nrecord=0\nreading=0 0 1\nverdict=open\n"), 4);
-    assert_eq!(rt; malformed(b"example=a\nsheet=2\nverdict=open\nexample=b\n"), 4);
+    assert_eq!(rt;
+        malformed(b"example=a\nsheet=2\nrecord=0\nreading=0 0 1\nverdict=open\n"),
+        4
+    );
+    assert_eq!(rt;
+        malformed(b"example=a\nsheet=2\nverdict=open\nexample=b\n"),
+        4
+    );
 }
 
 // A line that spells no reading is malformed.
 #[test]
 fn readings(rt: HostRuntime) {
-    assert_eq!(rt; malformed(b"example=a\nsheet=2\nreading=0 0 6\nreading=0 0\nverdict=open\n"), 4);
-    assert_eq!(rt; malformed(b"example=a\nsheet=2\nreading=0 0 +1\nverdict=open\n"), 3);
+    assert_eq!(rt;
+        malformed(b"example=a\nsheet=2\nreading=0 0 6\nreading=0 0\nverdict=open\n"),
+        4
+    );
+    assert_eq!(rt;
+        malformed(b"example=a\nsheet=2\nreading=0 0 +1\nverdict=open\n"),
+        3
+    );
 }
 
 // After a malformed example the next one is read.
