@@ -1,0 +1,6 @@
+-- The text stays.
+use Rattle.std.proofs.Common.{◌≡◌}
+use Rattle.worked.proofs.table.lines_with.Given as goal
+
+abbrev pub invariant-loop : goal.invariant-loop
+invariant-loop l = l.reader.text ≡ l.initial.reader.text

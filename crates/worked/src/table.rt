@@ -1,0 +1,136 @@
+// Cuts a table into its examples.
+ghost use Rattle.std.specs.Prelude.{◌≡◌, ◌+◌, ◌-◌, ◌==◌, count_by, drop, take};
+
+use crate::parts::{Part, part_of};
+use feed::Reading;
+use script::read_reading;
+use text::Reader;
+
+// A worked example: the parts of its block, as they stand in the table.
+#[derive(Clone, Copy, Debug)]
+pub struct Example<'a> {
+    pub name: &'a [u8],
+    // the lines of the sheet
+    pub sheet: &'a [u8],
+    // the lines with the readings of the run
+    pub readings: &'a [u8],
+    // the lines with the states that the run records
+    pub record: &'a [u8],
+    // the lines that close the run
+    pub closing: &'a [u8],
+}
+
+// The number of the line at which a reader stands, counted from 1.
+pub fn line_number(reader: &Reader<'_>) -> usize
+    ensures { result ≡ count_by (λ b. b == 10) (take reader.now.place reader.now.text.now) + 1 }
+{
+    let passed = reader.text.get(..reader.place).unwrap_or(reader.text);
+    passed.iter().filter(|b| **b == b'\n').count() + 1
+}
+
+// The reading of a line that has one.
+pub fn reading_of(line: &[u8]) -> Option<Reading> {
+    read_reading(line.strip_prefix(b"reading=")?)
+}
+
+// Whether a line says this, and says it well.
+fn says(line: &[u8], part: Part) -> bool {
+    part_of(line) == part && (part != Part::Reading || reading_of(line).is_some())
+}
+
+// The next line if it says this. Else the place is kept.
+fn line_with<'a>(reader: &mut Reader<'a>, part: Part) -> Option<&'a [u8]>
+    ensures { reader.new.text ≡ reader.old.text }
+{
+    let place = reader.place;
+    match reader.line() {
+        Some(line) if says(line, part) => Some(line),
+        _ => {
+            reader.place = place;
+            None
+        }
+    }
+}
+
+// The lines from a place on up to that of the reader.
+fn lines_from<'a>(reader: &Reader<'a>, start: usize) -> &'a [u8]
+    ensures { result.now ≡ take (reader.now.place - start) (drop start reader.now.text.now) }
+{
+    let end = reader.place.min(reader.text.len());
+    reader.text.get(start..end).unwrap_or(&[])
+}
+
+// The lines from the place on that say this.
+fn lines_with<'a>(reader: &mut Reader<'a>, part: Part) -> &'a [u8]
+    ensures { reader.new.text ≡ reader.old.text }
+{
+    let start = reader.place;
+    for _ in 0..u64::MAX {
+        if line_with(reader, part).is_none() {
+            break;
+        }
+    }
+    lines_from(reader, start)
+}
+
+// The lines from the place on that close a run: one with a verdict or a refusal, and those that are behind it. None where there is no such line.
+fn closing_lines<'a>(reader: &mut Reader<'a>) -> Option<&'a [u8]>
+    ensures { reader.new.text ≡ reader.old.text }
+{
+    let start = reader.place;
+    line_with(reader, Part::Closing)?;
+    lines_with(reader, Part::Other);
+    Some(lines_from(reader, start))
+}
+
+// The example that starts at the place, up to the empty line or the end of the table that ends it. None where the line at the place is not in order.
+fn read_block<'a>(reader: &mut Reader<'a>) -> Option<Example<'a>>
+    ensures { reader.new.text ≡ reader.old.text }
+{
+    let name = line_with(reader, Part::Name)?.strip_prefix(b"example=")?;
+    lines_with(reader, Part::Formula);
+    let sheet = lines_with(reader, Part::Other);
+    let readings = lines_with(reader, Part::Reading);
+    let record = lines_with(reader, Part::Record);
+    let closing = closing_lines(reader)?;
+    if reader.place < reader.text.len() {
+        line_with(reader, Part::End)?;
+    }
+    Some(Example {
+        name,
+        sheet,
+        readings,
+        record,
+        closing,
+    })
+}
+
+// Goes on behind the next empty line.
+fn pass_over(reader: &mut Reader<'_>)
+    ensures { reader.new.text ≡ reader.old.text }
+{
+    for _ in 0..u64::MAX {
+        if reader.line().is_none_or(|line| line.is_empty()) {
+            break;
+        }
+    }
+}
+
+// The next example of a table, or none where only empty lines are left.
+// Where one is malformed, the answer is the number of the line that is not in order, and the rest of the example is passed over.
+pub fn next_example<'a>(reader: &mut Reader<'a>) -> Option<Result<Example<'a>, usize>>
+    ensures { reader.new.text ≡ reader.old.text }
+{
+    lines_with(reader, Part::End);
+    if reader.place >= reader.text.len() {
+        return None;
+    }
+    match read_block(reader) {
+        Some(example) => Some(Ok(example)),
+        None => {
+            let number = line_number(reader);
+            pass_over(reader);
+            Some(Err(number))
+        }
+    }
+}
