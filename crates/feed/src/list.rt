@@ -6,7 +6,8 @@ ghost use Rattle.feed.specs.Lists.{listed, first, rank, ranked};
 
 use crate::feed::{Feed, STATES, VARIABLES};
 
-// A record: the number that a variable has in a state.
+// A record: the number that a variable has in a state. It lies in memory as C lays it out, so that a C program can lend a list.
+#[repr(C)]
 #[derive(Clone, Copy, Debug, PartialEq, Eq)]
 pub struct Reading {
     pub state: u32,

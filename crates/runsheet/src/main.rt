@@ -3,7 +3,8 @@
 
 use closing::MOST_CLOSING;
 use engine::Engine;
-use showing::show;
+use feed::Silent;
+use showing::{MOST_STATES, show};
 use std::io;
 use std::io::{Read, Write};
 
@@ -19,7 +20,14 @@ fn main(rt: HostRuntime) -> io::Result<()> {
     let mut closing = [0; MOST_CLOSING];
     let mut text = Vec::new(rt.alloc());
     rt.stdin().take(ENOUGH).read_to_end(&mut text)?;
-    let (end, length) = show(&mut engine, &text, &mut record, &mut closing);
+    let (end, length) = show(
+        &mut engine,
+        &text,
+        MOST_STATES,
+        &Silent,
+        &mut record,
+        &mut closing,
+    );
     rt.stdout().write_all(record.get(..end).unwrap_or(&[]))?;
     rt.stdout().write_all(closing.get(..length).unwrap_or(&[]))
 }

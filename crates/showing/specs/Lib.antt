@@ -1,2 +1,2 @@
--- What the contracts of this crate say: runs without readings, and answers that are no denial.
+-- What the contracts of this crate say: runs of the sheets of texts, into any recorder, as text, as numbers, and shown.
 pub mod Whole

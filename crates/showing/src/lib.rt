@@ -1,6 +1,8 @@
-// Runs sheets, and shows what comes of each as text.
+// Runs the sheets of texts: into numbers, into text, and to be shown with closing lines.
 #![tactic(auto)]
 
 mod runner;
+mod shown;
 
-pub use crate::runner::show;
+pub use crate::runner::MOST_STATES;
+pub use crate::shown::{record_numbers, record_text, show};

@@ -1,57 +1,49 @@
-// Runs sheets, and shows what comes of each as text.
-ghost use Rattle.std.specs.Prelude.{◌≡◌, ◌≤◌, length, take};
-ghost use Rattle.record.specs.Owned.{LeavesOwner};
+// Runs the sheet of a text from the first state on, into a recorder of any kind.
+ghost use Rattle.std.specs.Prelude.{◌≡◌};
 ghost use Rattle.calls.specs.Meant.{idle, recording};
 ghost use Rattle.calls.specs.Told.{told, to_advance};
 ghost use Rattle.engine.specs.Held.{meant};
+ghost use Rattle.record.specs.Owned.{LeavesOwner};
 ghost use Rattle.verdict.specs.Verdict.{verdict};
-ghost use Rattle.showing.specs.Whole.{FromTheFirst, Ran, Shows};
+ghost use Rattle.showing.specs.Whole.{Comes, FromTheFirst};
 
-use closing::{Closing, closing_lines};
+use closing::Closing;
 use engine::{Engine, NotAdvanced, Progress};
-use feed::Silent;
+use feed::Feed;
 use record::Recorder;
-use written::TextRecorder;
 
-// The states that a run is asked for.
-const STATES: usize = 1000;
+// The most states that a run may be asked for.
+pub const MOST_STATES: usize = 1000;
 
-// Begins a run of the sheet that the engine holds, and advances it once, without readings.
-fn run<R: Recorder>(engine: &mut Engine, recorder: &mut R) -> Result<Progress, NotAdvanced>
+// Begins a run of the sheet that the engine holds, and advances it once.
+fn run<F: Feed, R: Recorder>(
+    engine: &mut Engine,
+    states: usize,
+    feed: &F,
+    recorder: &mut R,
+) -> Result<Progress, NotAdvanced>
     requires idle { (meant engine.old).standing ≡ idle }
-    ensures whole { FromTheFirst (meant engine.old).sheet (R.capacity recorder.old) (told (to_advance result)) (meant engine.new).standing (recording R.states R.breadth R.spare recorder.new) }
+    ensures whole { FromTheFirst (meant engine.old).sheet (F.readings feed.now) states (R.capacity recorder.old) (told (to_advance result)) (meant engine.new).standing (recording R.states R.breadth R.spare recorder.new) }
     ensures owner { LeavesOwner R.capacity R.lent R.reach R.cell recorder.old recorder.new }
 {
     engine.begin(recorder).map_err(NotAdvanced::Denied)?;
-    engine.advance(STATES, &Silent, recorder)
+    engine.advance(states, feed, recorder)
 }
 
-// Runs the sheet that the engine holds, and has its record written to the front of the bytes. Says the record's length, and what the advance answered.
-fn write_record(engine: &mut Engine, bytes: &mut [u8]) -> (usize, Result<Progress, NotAdvanced>)
-    requires idle { (meant engine.old).standing ≡ idle }
-    ensures ran { Ran (meant engine.old).sheet (length bytes.old) (take result.0 bytes.new) result.1 }
-{
-    let mut recorder = TextRecorder::new(bytes);
-    let answer = run(engine, &mut recorder);
-    (recorder.length(), answer)
-}
-
-// Runs the sheet that a text spells, without readings, and has its record and the closing lines written; or the lines that say why the text is refused.
-// Says how long the record and the lines are. A run that the engine has open is given up.
-pub fn show(
+// Runs the sheet that a text spells, or says why the text is refused. A run that the engine has open is given up.
+pub(crate) fn run_text<F: Feed, R: Recorder>(
     engine: &mut Engine,
     text: &[u8],
-    record: &mut [u8],
-    closing: &mut [u8],
-) -> (usize, usize)
-    ensures { 81 ≤ length closing.old → Shows (verdict text.now) (length «record».old) (take result.0 «record».new) (take result.1 closing.new) }
+    states: usize,
+    feed: &F,
+    recorder: &mut R,
+) -> Closing
+    ensures come { Comes (verdict text.now) (F.readings feed.now) states (R.capacity recorder.old) (recording R.states R.breadth R.spare recorder.old) result (recording R.states R.breadth R.spare recorder.new) }
+    ensures owner { LeavesOwner R.capacity R.lent R.reach R.cell recorder.old recorder.new }
 {
     let _ = engine.abandon();
     match engine.load(text) {
-        Ok(()) => {
-            let (end, answer) = write_record(engine, record);
-            (end, closing_lines(Closing::Advanced(answer), closing))
-        }
-        Err(reason) => (0, closing_lines(Closing::NotLoaded(reason), closing)),
+        Ok(()) => Closing::Advanced(run(engine, states, feed, recorder)),
+        Err(reason) => Closing::NotLoaded(reason),
     }
 }

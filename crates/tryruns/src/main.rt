@@ -4,7 +4,8 @@
 
 use closing::MOST_CLOSING;
 use engine::Engine;
-use showing::show;
+use feed::Silent;
+use showing::{MOST_STATES, show};
 use std::io;
 use std::io::{BufRead, BufReader, Write};
 
@@ -19,7 +20,14 @@ fn main(rt: HostRuntime) -> io::Result<()> {
     for line in input.split(rt.alloc(), b'\n') {
         let mut text = line?;
         end_lines(&mut text);
-        let (end, length) = show(&mut engine, &text, &mut record, &mut closing);
+        let (end, length) = show(
+            &mut engine,
+            &text,
+            MOST_STATES,
+            &Silent,
+            &mut record,
+            &mut closing,
+        );
         rt.stdout().write_all(record.get(..end).unwrap_or(&[]))?;
         rt.stdout().write_all(closing.get(..length).unwrap_or(&[]))?;
         println!(rt; "--")?;

@@ -1,0 +1,30 @@
+-- What comes of a text, by the verdict on it.
+use Rattle.std.proofs.Common.{Result, refl, sym, subst}
+use Rattle.sheet.specs.Content.{Content}
+use Rattle.verdict.specs.declared.refusals.Refusal.{Refusal}
+use Rattle.closing.specs.declared.closing.Closing.TheVariants.{NotLoaded, Advanced}
+use Rattle.calls.specs.Meant.{recording}
+use Rattle.calls.specs.Told.{told, to_abandon}
+use Rattle.engine.specs.Held.{meant}
+use Rattle.showing.specs.Whole.{Comes}
+use Rattle.showing.proofs.Coming.{loaded_after, refused_after}
+use Rattle.showing.proofs.runner.run_text.Goals as goal
+
+pub returns-in-Ok-clause-come : goal.returns-in-Ok-clause-come
+returns-in-Ok-clause-come g c =
+    let R = g.R.Recorder in
+    let v = loaded_after c.args.text.now (meant c.args.engine.now) (meant c.abandon.new.self) (meant c.load.new.self) (told (to_abandon c.abandon.result)) c.abandon.ensures c.in-Ok.ensures in
+    let before = recording R.states R.breadth R.spare c.args.recorder.now in
+    let after = recording R.states R.breadth R.spare c.run.new.recorder in
+    let a = c.run.result in
+    subst (λ (z : Result Content Refusal). Comes z (g.F.Feed.readings c.args.feed.now) c.args.states (R.capacity c.args.recorder.now) before (Advanced a) after) (sym v)
+    (a, refl, record { standing = (meant c.run.new.engine).standing; settled = c.run.ensures.whole })
+
+pub returns-in-Err-clause-come : goal.returns-in-Err-clause-come
+returns-in-Err-clause-come g c =
+    let R = g.R.Recorder in
+    let x = c.in-Err.reason in
+    let r = refused_after c.args.text.now (meant c.args.engine.now) (meant c.abandon.new.self) (meant c.load.new.self) (told (to_abandon c.abandon.result)) x c.abandon.ensures c.in-Err.ensures in
+    let before = recording R.states R.breadth R.spare c.args.recorder.now in
+    subst (λ (z : Result Content Refusal). Comes z (g.F.Feed.readings c.args.feed.now) c.args.states (R.capacity c.args.recorder.now) before (NotLoaded x) before) (sym r.verdict)
+    (x, refl, r.told, refl)
