@@ -1,5 +1,10 @@
 // Cuts a table into its examples.
-ghost use Rattle.std.specs.Prelude.{◌≡◌, ◌+◌, ◌-◌, ◌==◌, count_by, drop, take};
+ghost use Rattle.std.specs.Prelude.{◌≡◌, ℕ, ◌+◌, ◌≤◌, ◌==◌, IfSome, IfOk, IsTrue, MatchOption, count_by, drop, length, take};
+ghost use Rattle.text.specs.Cut.{parted};
+ghost use Rattle.script.specs.Spelling.{reading_words};
+ghost use Rattle.worked.specs.declared.parts.Part.TheVariants.{Closing, End, Other};
+ghost use Rattle.worked.specs.Parts.{part_in};
+ghost use Rattle.worked.specs.Blocks.{AllSay, StandsAt, behind, between, line_at};
 
 use crate::parts::{Part, part_of};
 use feed::Reading;
@@ -29,18 +34,23 @@ pub fn line_number(reader: &Reader<'_>) -> usize
 }
 
 // The reading of a line that has one.
-pub fn reading_of(line: &[u8]) -> Option<Reading> {
+pub fn reading_of(line: &[u8]) -> Option<Reading>
+    ensures { IfSome result (λ r. parted 32 (drop 8 line.now) ≡ reading_words r) }
+{
     read_reading(line.strip_prefix(b"reading=")?)
 }
 
 // Whether a line says this, and says it well.
-fn says(line: &[u8], part: Part) -> bool {
+fn says(line: &[u8], part: Part) -> bool
+    ensures { IsTrue result → part_in line.now ≡ part }
+{
     part_of(line) == part && (part != Part::Reading || reading_of(line).is_some())
 }
 
 // The next line if it says this. Else the place is kept.
 fn line_with<'a>(reader: &mut Reader<'a>, part: Part) -> Option<&'a [u8]>
-    ensures { reader.new.text ≡ reader.old.text }
+    ensures text { reader.new.text ≡ reader.old.text }
+    ensures cases { MatchOption result (reader.new.place ≡ reader.old.place) (λ l. (reader.old.place ≤ length reader.old.text.now) × (l.now ≡ line_at reader.old.text.now reader.old.place) × (part_in l.now ≡ part) × (reader.new.place ≡ behind reader.old.text.now reader.old.place)) }
 {
     let place = reader.place;
     match reader.line() {
@@ -54,7 +64,7 @@ fn line_with<'a>(reader: &mut Reader<'a>, part: Part) -> Option<&'a [u8]>
 
 // The lines from a place on up to that of the reader.
 fn lines_from<'a>(reader: &Reader<'a>, start: usize) -> &'a [u8]
-    ensures { result.now ≡ take (reader.now.place - start) (drop start reader.now.text.now) }
+    ensures { result.now ≡ between reader.now.text.now start reader.now.place }
 {
     let end = reader.place.min(reader.text.len());
     reader.text.get(start..end).unwrap_or(&[])
@@ -62,20 +72,23 @@ fn lines_from<'a>(reader: &Reader<'a>, start: usize) -> &'a [u8]
 
 // The lines from the place on that say this.
 fn lines_with<'a>(reader: &mut Reader<'a>, part: Part) -> &'a [u8]
-    ensures { reader.new.text ≡ reader.old.text }
+    ensures text { reader.new.text ≡ reader.old.text }
+    ensures say { AllSay reader.old.text.now part reader.old.place reader.new.place }
+    ensures lines { result.now ≡ between reader.old.text.now reader.old.place reader.new.place }
 {
     let start = reader.place;
     for _ in 0..u64::MAX {
-        if line_with(reader, part).is_none() {
+        let Some(_) = line_with(reader, part) else {
             break;
-        }
+        };
     }
     lines_from(reader, start)
 }
 
 // The lines from the place on that close a run: one with a verdict or a refusal, and those that are behind it. None where there is no such line.
 fn closing_lines<'a>(reader: &mut Reader<'a>) -> Option<&'a [u8]>
-    ensures { reader.new.text ≡ reader.old.text }
+    ensures text { reader.new.text ≡ reader.old.text }
+    ensures lines { IfSome result (λ l. (part_in (line_at reader.old.text.now reader.old.place) ≡ Closing) × AllSay reader.old.text.now Other (behind reader.old.text.now reader.old.place) reader.new.place × (l.now ≡ between reader.old.text.now reader.old.place reader.new.place)) }
 {
     let start = reader.place;
     line_with(reader, Part::Closing)?;
@@ -85,7 +98,8 @@ fn closing_lines<'a>(reader: &mut Reader<'a>) -> Option<&'a [u8]>
 
 // The example that starts at the place, up to the empty line or the end of the table that ends it. None where the line at the place is not in order.
 fn read_block<'a>(reader: &mut Reader<'a>) -> Option<Example<'a>>
-    ensures { reader.new.text ≡ reader.old.text }
+    ensures text { reader.new.text ≡ reader.old.text }
+    ensures stands { IfSome result (λ e. (q : ℕ) × StandsAt reader.old.text.now e reader.old.place q) }
 {
     let name = line_with(reader, Part::Name)?.strip_prefix(b"example=")?;
     lines_with(reader, Part::Formula);
@@ -119,7 +133,9 @@ fn pass_over(reader: &mut Reader<'_>)
 // The next example of a table, or none where only empty lines are left.
 // Where one is malformed, the answer is the number of the line that is not in order, and the rest of the example is passed over.
 pub fn next_example<'a>(reader: &mut Reader<'a>) -> Option<Result<Example<'a>, usize>>
-    ensures { reader.new.text ≡ reader.old.text }
+    ensures text { reader.new.text ≡ reader.old.text }
+    ensures over { result ≡ None → AllSay reader.old.text.now End reader.old.place reader.new.place × (length reader.old.text.now ≤ reader.new.place) }
+    ensures stands { IfSome result (λ r. IfOk r (λ e. (p q : ℕ) × AllSay reader.old.text.now End reader.old.place p × StandsAt reader.old.text.now e p q)) }
 {
     lines_with(reader, Part::End);
     if reader.place >= reader.text.len() {
