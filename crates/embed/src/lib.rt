@@ -6,3 +6,6 @@ mod answer;
 mod exports;
 
 pub use crate::answer::Answer;
+
+#[cfg(test)]
+mod tests;
