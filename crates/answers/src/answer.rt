@@ -7,14 +7,20 @@ use calls::{Cause, Denial, Ending, NotAdvanced, NotLoaded, Progress, Report};
 use meaning::Stop;
 use std::fmt;
 
-// What a call on an engine answers.
+// What a call on an engine answers, with the call that it comes from.
 #[derive(Clone, Copy, Debug, PartialEq, Eq)]
 pub enum Answer {
+    // the text is held as a sheet, or why not
     Load(Result<(), NotLoaded>),
+    // a run is open, or why not
     Begin(Result<(), Denial>),
+    // how far the run has come, or why no further
     Advance(Result<Progress, NotAdvanced>),
+    // the run is given up, or why not
     Abandon(Result<(), Denial>),
+    // how the engine stands
     Report(Report),
+    // the number that was looked up, or why there is none
     Look(Result<i64, Denial>),
 }
 
