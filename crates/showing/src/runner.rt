@@ -5,7 +5,7 @@ ghost use Rattle.calls.specs.Meant.{idle, recording};
 ghost use Rattle.calls.specs.Told.{told, to_advance};
 ghost use Rattle.engine.specs.Held.{meant};
 ghost use Rattle.verdict.specs.Verdict.{verdict};
-ghost use Rattle.showing.specs.Whole.{FromTheFirst, Ran, Shows};
+ghost use Rattle.showing.specs.Whole.{FromTheFirst, Front, Ran, Shows};
 
 use closing::{Closing, closing_lines};
 use engine::{Engine, NotAdvanced, Progress};
@@ -20,6 +20,7 @@ const STATES: usize = 1000;
 fn run<R: Recorder>(engine: &mut Engine, recorder: &mut R) -> Result<Progress, NotAdvanced>
     requires idle { (meant engine.old).standing ≡ idle }
     ensures whole { FromTheFirst (meant engine.old).sheet (R.capacity recorder.old) (told (to_advance result)) (meant engine.new).standing (recording R.states R.breadth R.spare recorder.new) }
+    ensures sheet { (meant engine.new).sheet ≡ (meant engine.old).sheet }
     ensures owner { LeavesOwner R.capacity R.lent R.reach R.cell recorder.old recorder.new }
 {
     engine.begin(recorder).map_err(NotAdvanced::Denied)?;
@@ -29,7 +30,9 @@ fn run<R: Recorder>(engine: &mut Engine, recorder: &mut R) -> Result<Progress, N
 // Runs the sheet that the engine holds, and has its record written to the front of the bytes. Says the record's length, and what the advance answered.
 fn write_record(engine: &mut Engine, bytes: &mut [u8]) -> (usize, Result<Progress, NotAdvanced>)
     requires idle { (meant engine.old).standing ≡ idle }
-    ensures ran { Ran (meant engine.old).sheet (length bytes.old) (take result.0 bytes.new) result.1 }
+    ensures ran { Ran (meant engine.old).sheet (length bytes.old) (take result.0 bytes.new) result.1 (meant engine.new).standing }
+    ensures sheet { (meant engine.new).sheet ≡ (meant engine.old).sheet }
+    ensures front { Front result.0 bytes.old bytes.new }
 {
     let mut recorder = TextRecorder::new(bytes);
     let answer = run(engine, &mut recorder);
@@ -44,7 +47,9 @@ pub fn show(
     record: &mut [u8],
     closing: &mut [u8],
 ) -> (usize, usize)
-    ensures { 81 ≤ length closing.old → Shows (verdict text.now) (length «record».old) (take result.0 «record».new) (take result.1 closing.new) }
+    ensures shown { 81 ≤ length closing.old → Shows (verdict text.now) (length «record».old) (take result.0 «record».new) (take result.1 closing.new) (meant engine.old) (meant engine.new) }
+    ensures text_end { Front result.0 «record».old «record».new }
+    ensures closing_end { Front result.1 closing.old closing.new }
 {
     let _ = engine.abandon();
     match engine.load(text) {

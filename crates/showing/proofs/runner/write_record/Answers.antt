@@ -5,5 +5,5 @@ use Rattle.engine.specs.Held.{meant}
 use Rattle.showing.proofs.Coming.{ran_of}
 use Rattle.showing.proofs.runner.write_record.Goals as goal
 
-pub returns : goal.returns
-returns c = record { ran = ran_of (sheet_in c.args.engine.now.loader.sheet) (length c.args.bytes.now) (length c.new-recorder.result.memory.now) _ c.run-answer.result (meant c.run-answer.new.engine).standing _ (ap length c.new-recorder.ensures.holds) c.run-answer.ensures.whole (search rules) }
+pub returns-clause-ran : goal.returns-clause-ran
+returns-clause-ran c = ran_of (sheet_in c.args.engine.now.loader.sheet) (length c.args.bytes.now) (length c.new-recorder.result.memory.now) _ c.run-answer.result (meant c.run-answer.new.engine).standing _ (ap length c.new-recorder.ensures.holds) c.run-answer.ensures.whole (search rules)
