@@ -20,6 +20,6 @@ fn main(rt: HostRuntime) -> io::Result<()> {
     let mut text = Vec::new(rt.alloc());
     rt.stdin().take(ENOUGH).read_to_end(&mut text)?;
     let (end, length) = show(&mut engine, &text, &mut record, &mut closing);
-    rt.stdout().write_all(record.get(..end).unwrap_or(&[]))?;
-    rt.stdout().write_all(closing.get(..length).unwrap_or(&[]))
+    rt.stdout().write_all(&record[..end])?;
+    rt.stdout().write_all(&closing[..length])
 }

@@ -20,8 +20,8 @@ fn main(rt: HostRuntime) -> io::Result<()> {
         let mut text = line?;
         end_lines(&mut text);
         let (end, length) = show(&mut engine, &text, &mut record, &mut closing);
-        rt.stdout().write_all(record.get(..end).unwrap_or(&[]))?;
-        rt.stdout().write_all(closing.get(..length).unwrap_or(&[]))?;
+        rt.stdout().write_all(&record[..end])?;
+        rt.stdout().write_all(&closing[..length])?;
         println!(rt; "--")?;
     }
     Ok(())
