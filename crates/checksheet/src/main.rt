@@ -1,7 +1,10 @@
 // Tells whether the text on standard input is a sheet: its counts and its names, or why it is refused.
 #![tactic(auto)]
 
-use load::{Loader, Refusal};
+mod telling;
+
+use crate::telling::Refused;
+use load::Loader;
 use std::io;
 use std::io::{Read, Write};
 
@@ -14,7 +17,7 @@ fn main(rt: HostRuntime) -> io::Result<()> {
     let mut loader = Loader::new(rt.alloc())?;
     match loader.load(&text) {
         Ok(()) => show_sheet(&rt, &mut loader, &text),
-        Err(refusal) => show_refusal(&rt, refusal),
+        Err(refusal) => print!(rt; "{}", Refused { refusal }),
     }
 }
 
@@ -40,11 +43,4 @@ fn show_name(rt: &HostRuntime, k: usize, name: Option<&[u8]>) -> io::Result<()> 
         println!(rt; "")?;
     }
     Ok(())
-}
-
-fn show_refusal(rt: &HostRuntime, refusal: Refusal) -> io::Result<()> {
-    println!(rt; "refused={}", refusal.number())?;
-    println!(rt; "line={}", refusal.line())?;
-    println!(rt; "word={}", refusal.word())?;
-    println!(rt; "reason={}", refusal.reason())
 }

@@ -22,6 +22,7 @@ pub enum Closing {
 // A denied advance has no lines: the answer is 0 then, too, and nothing is written. `MOST_CLOSING` bytes are room for any lines.
 pub fn closing_lines(closing: Closing, bytes: &mut [u8]) -> usize
     ensures short { length (lines closing) ≤ 81 }
+    ensures most { MOST_CLOSING ≡ 81 }
     ensures answer { result ≡ (if nat_le (length (lines closing)) (length bytes.old) then length (lines closing) else 0) }
     ensures written { bytes.new ≡ (if nat_le (length (lines closing)) (length bytes.old) then lines closing ++ drop (length (lines closing)) bytes.old else bytes.old) }
 {
