@@ -45,13 +45,13 @@ Checks (Ok c) old a new = (a ≡ record nothing { width = length c.variables }) 
 Checks (Err r) old a new = (a ≡ record (answer_of (NotLoaded (Refused r))) { length = if nat_le (length (sentence r)) (length old) then length (sentence r) else 0 })
     × (new ≡ (if nat_le (length (sentence r)) (length old) then sentence r ++ drop (length (sentence r)) old else old))
 
--- a run of a text with this verdict under the readings f, for up to n states, with its record as text at the front of the caller's bytes, by an engine of the call's own
+-- a run of a text with this verdict under the readings f, for up to n states, by an engine of the call's own: its record stands as text at the front of the caller's bytes, and has as many states as are answered
 abbrev pub RunsInText : Result Content Refusal → (ℕ → ℕ → Option ℤ) → ℕ → List ℕ → Answer → List ℕ → Type 0
-RunsInText v f n old a new = (x : Closing) × (e : Meant) × (d : Meant) × InText v f n a.length old new x e d × (a ≡ record (answer_of x) { length = a.length })
+RunsInText v f n old a new = (x : Closing) × (e : Meant) × (d : Meant) × (h : InText v f n a.length old new x e d) × (a.states ≡ length h.recorder.states) × (a ≡ record (answer_of x) { length = a.length })
 
--- the same, with its record as a table at the front of the caller's numbers
+-- the same, where its record stands as a table at the front of the caller's numbers
 abbrev pub RunsInNumbers : Result Content Refusal → (ℕ → ℕ → Option ℤ) → ℕ → List ℤ → Answer → List ℤ → Type 0
-RunsInNumbers v f n old a new = (x : Closing) × (e : Meant) × (d : Meant) × InNumbers v f n a.width old new x e d × (a ≡ record (answer_of x) { width = a.width })
+RunsInNumbers v f n old a new = (x : Closing) × (e : Meant) × (d : Meant) × (h : InNumbers v f n a.width old new x e d) × (a.states ≡ length h.recorder.states) × (a ≡ record (answer_of x) { width = a.width })
 
 -- what a call does, whose work in the caller's memory is this: the work; or nothing, where there is no memory for what it needs
 pub data Does {A : Type 0} (Work : Answer → List A → Type 0) (old : List A) : Answer → List A → Type 0 where
