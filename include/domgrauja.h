@@ -76,7 +76,7 @@ typedef struct domgrauja_answer {
  * It is: number is 0, and width says how many variables it has.
  * It is not: number, line and word say why, and a sentence to read out stands at the front of
  * `sentence`, with its length in `length`. It has no byte 0 at its end. Where it does not fit,
- * nothing is written and `length` is 0. */
+ * nothing is written and `length` is 0. No byte of `sentence` behind `length` changes. */
 domgrauja_answer domgrauja_check(const uint8_t *text, size_t text_length,
                                  uint8_t *sentence, size_t sentence_length);
 
@@ -87,14 +87,16 @@ domgrauja_answer domgrauja_check(const uint8_t *text, size_t text_length,
  *   number 0, not finished:  all states that were asked for are recorded, and none is the last.
  *   number 31 to 34:         the states before it are recorded.
  *   any other number:        nothing is recorded.
- * `width` is 0. Equal texts and readings give equal states: to go on, run again for more states. */
+ * `length` is at most `record_length`, and no byte of `record` behind it changes. `width` is 0.
+ * Equal texts and readings give equal states: to go on, run again for more states. */
 domgrauja_answer domgrauja_run_text(const uint8_t *text, size_t text_length,
                                     const domgrauja_reading *readings, size_t readings_length,
                                     size_t states,
                                     uint8_t *record, size_t record_length);
 
 /* The same, with the record as a table: variable J of state K is numbers[K * width + J].
- * `width` says how many variables the sheet has; where the text is refused it means nothing. `length` is 0. */
+ * `width` says how many variables the sheet has; where the text is refused it means nothing. `length` is 0.
+ * `states` * `width` is at most `numbers_length`, and no number behind so many changes. */
 domgrauja_answer domgrauja_run_numbers(const uint8_t *text, size_t text_length,
                                        const domgrauja_reading *readings, size_t readings_length,
                                        size_t states,

@@ -1,5 +1,5 @@
 -- What the calls answer and do. Assumes nothing.
-use Rattle.std.specs.Prelude.{◌≡◌, ℕ, ◌++◌, false, true, if◌then◌else◌, List, drop, length, take, ℤ, Ok, Err, Option, Result, nat_le}
+use Rattle.std.specs.Prelude.{◌≡◌, ℕ, ◌++◌, false, true, if◌then◌else◌, List, drop, length, ℤ, Ok, Err, Option, Result, nat_le}
 use Rattle.sheet.specs.Content.{Content}
 use Rattle.verdict.specs.declared.refusals.Refusal.{Refusal}
 use Rattle.verdict.specs.Told.{sentence}
@@ -9,6 +9,7 @@ use Rattle.meaning.specs.Runs.{open_number}
 use Rattle.calls.specs.declared.parts.NotAdvanced.TheVariants.{Denied, Full, Stopped}
 use Rattle.calls.specs.declared.parts.NotLoaded.TheVariants.{Refused}
 use Rattle.calls.specs.declared.parts.Progress.TheVariants.{Open, Finished}
+use Rattle.calls.specs.Meant.{Meant}
 use Rattle.calls.specs.Told.{advance_number, stop_number, text_number, text_line, text_word}
 use Rattle.closing.specs.declared.closing.Closing.{Closing}
 use Rattle.closing.specs.declared.closing.Closing.TheVariants.{NotLoaded, Advanced}
@@ -44,13 +45,13 @@ Checks (Ok c) old a new = (a ≡ record nothing { width = length c.variables }) 
 Checks (Err r) old a new = (a ≡ record (answer_of (NotLoaded (Refused r))) { length = if nat_le (length (sentence r)) (length old) then length (sentence r) else 0 })
     × (new ≡ (if nat_le (length (sentence r)) (length old) then sentence r ++ drop (length (sentence r)) old else old))
 
--- a run of a text with this verdict under the readings f, for up to n states, with its record as text in so many bytes
-abbrev pub RunsInText : Result Content Refusal → (ℕ → ℕ → Option ℤ) → ℕ → ℕ → Answer → List ℕ → Type 0
-RunsInText v f n size a new = (x : Closing) × InText v f n size (take a.length new) x × (a ≡ record (answer_of x) { length = a.length })
+-- a run of a text with this verdict under the readings f, for up to n states, by an engine of the call's own: its record stands as text at the front of the caller's bytes, and has as many states as are answered
+abbrev pub RunsInText : Result Content Refusal → (ℕ → ℕ → Option ℤ) → ℕ → List ℕ → Answer → List ℕ → Type 0
+RunsInText v f n old a new = (x : Closing) × (e : Meant) × (d : Meant) × (h : InText v f n a.length old new x e d) × (a.states ≡ length h.recorder.states) × (a ≡ record (answer_of x) { length = a.length })
 
--- the same, with its record as a table in so many numbers
-abbrev pub RunsInNumbers : Result Content Refusal → (ℕ → ℕ → Option ℤ) → ℕ → ℕ → Answer → List ℤ → Type 0
-RunsInNumbers v f n size a new = (x : Closing) × InNumbers v f n size a.width new x × (a ≡ record (answer_of x) { width = a.width })
+-- the same, where its record stands as a table at the front of the caller's numbers
+abbrev pub RunsInNumbers : Result Content Refusal → (ℕ → ℕ → Option ℤ) → ℕ → List ℤ → Answer → List ℤ → Type 0
+RunsInNumbers v f n old a new = (x : Closing) × (e : Meant) × (d : Meant) × (h : InNumbers v f n a.width old new x e d) × (a.states ≡ length h.recorder.states) × (a ≡ record (answer_of x) { width = a.width })
 
 -- what a call does, whose work in the caller's memory is this: the work; or nothing, where there is no memory for what it needs
 pub data Does {A : Type 0} (Work : Answer → List A → Type 0) (old : List A) : Answer → List A → Type 0 where

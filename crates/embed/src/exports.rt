@@ -62,7 +62,7 @@ pub extern "C" fn domgrauja_run_text(
     states: usize,
     bytes: &mut [u8],
 ) -> Answer
-    ensures { Does (RunsInText (verdict text.now) (listed readings.now) states (length bytes.old)) bytes.old result bytes.new }
+    ensures { Does (RunsInText (verdict text.now) (listed readings.now) states bytes.old) bytes.old result bytes.new }
 {
     match Engine::new(heap) {
         Ok(mut engine) => {
@@ -86,7 +86,7 @@ pub extern "C" fn domgrauja_run_numbers(
     states: usize,
     numbers: &mut [i64],
 ) -> Answer
-    ensures { Does (RunsInNumbers (verdict text.now) (listed readings.now) states (length numbers.old)) numbers.old result numbers.new }
+    ensures { Does (RunsInNumbers (verdict text.now) (listed readings.now) states numbers.old) numbers.old result numbers.new }
 {
     match Engine::new(heap) {
         Ok(mut engine) => {

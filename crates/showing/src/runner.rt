@@ -24,6 +24,7 @@ fn run<F: Feed, R: Recorder>(
 ) -> Result<Progress, NotAdvanced>
     requires idle { (meant engine.old).standing ≡ idle }
     ensures whole { FromTheFirst (meant engine.old).sheet (F.readings feed.now) states (R.capacity recorder.old) (told (to_advance result)) (meant engine.new).standing (recording R.states R.breadth R.spare recorder.new) }
+    ensures sheet { (meant engine.new).sheet ≡ (meant engine.old).sheet }
     ensures owner { LeavesOwner R.capacity R.lent R.reach R.cell recorder.old recorder.new }
 {
     engine.begin(recorder).map_err(NotAdvanced::Denied)?;
@@ -38,7 +39,7 @@ pub(crate) fn run_text<F: Feed, R: Recorder>(
     feed: &F,
     recorder: &mut R,
 ) -> Closing
-    ensures come { Comes (verdict text.now) (F.readings feed.now) states (R.capacity recorder.old) (recording R.states R.breadth R.spare recorder.old) result (recording R.states R.breadth R.spare recorder.new) }
+    ensures come { Comes (verdict text.now) (F.readings feed.now) states (R.capacity recorder.old) (recording R.states R.breadth R.spare recorder.old) result (recording R.states R.breadth R.spare recorder.new) (meant engine.old) (meant engine.new) }
     ensures owner { LeavesOwner R.capacity R.lent R.reach R.cell recorder.old recorder.new }
 {
     let _ = engine.abandon();

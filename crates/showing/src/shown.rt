@@ -1,7 +1,8 @@
 // What comes of a text, in the caller's numbers or bytes.
 ghost use Rattle.std.specs.Prelude.{◌≤◌, length, take};
+ghost use Rattle.engine.specs.Held.{meant};
 ghost use Rattle.verdict.specs.Verdict.{verdict};
-ghost use Rattle.showing.specs.Whole.{InNumbers, InText, Shows};
+ghost use Rattle.showing.specs.Whole.{Front, InNumbers, InText, Shows};
 
 use crate::runner::run_text;
 use closing::{Closing, closing_lines};
@@ -19,7 +20,7 @@ pub fn record_numbers<F: Feed>(
     feed: &F,
     numbers: &mut [i64],
 ) -> (usize, Closing)
-    ensures { InNumbers (verdict text.now) (F.readings feed.now) states (length numbers.old) result.0 numbers.new result.1 }
+    ensures { InNumbers (verdict text.now) (F.readings feed.now) states result.0 numbers.old numbers.new result.1 (meant engine.old) (meant engine.new) }
 {
     let mut recorder = TableRecorder::new(numbers);
     let closing = run_text(engine, text, states, feed, &mut recorder);
@@ -35,7 +36,7 @@ pub fn record_text<F: Feed>(
     feed: &F,
     bytes: &mut [u8],
 ) -> (usize, Closing)
-    ensures { InText (verdict text.now) (F.readings feed.now) states (length bytes.old) (take result.0 bytes.new) result.1 }
+    ensures { InText (verdict text.now) (F.readings feed.now) states result.0 bytes.old bytes.new result.1 (meant engine.old) (meant engine.new) }
 {
     let mut recorder = TextRecorder::new(bytes);
     let closing = run_text(engine, text, states, feed, &mut recorder);
@@ -52,7 +53,9 @@ pub fn show<F: Feed>(
     record: &mut [u8],
     closing: &mut [u8],
 ) -> (usize, usize)
-    ensures { 81 ≤ length closing.old → Shows (verdict text.now) (F.readings feed.now) states (length «record».old) (take result.0 «record».new) (take result.1 closing.new) }
+    ensures shown { 81 ≤ length closing.old → Shows (verdict text.now) (F.readings feed.now) states (length «record».old) (take result.0 «record».new) (take result.1 closing.new) (meant engine.old) (meant engine.new) }
+    ensures text_end { Front result.0 «record».old «record».new }
+    ensures closing_end { Front result.1 closing.old closing.new }
 {
     let (end, answer) = record_text(engine, text, states, feed, record);
     (end, closing_lines(answer, closing))

@@ -28,8 +28,8 @@ fn main(rt: HostRuntime) -> io::Result<()> {
             &mut record,
             &mut closing,
         );
-        rt.stdout().write_all(record.get(..end).unwrap_or(&[]))?;
-        rt.stdout().write_all(closing.get(..length).unwrap_or(&[]))?;
+        rt.stdout().write_all(&record[..end])?;
+        rt.stdout().write_all(&closing[..length])?;
         println!(rt; "--")?;
     }
     Ok(())

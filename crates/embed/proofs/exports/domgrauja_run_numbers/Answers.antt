@@ -1,20 +1,24 @@
 -- The run's work under the readings that are listed, or nothing.
-use Rattle.std.proofs.Common.{List, ap, length, subst}
+use Rattle.std.proofs.Common.{List, ap, ◌∙◌, subst}
 use Rattle.feed.specs.declared.list.Reading.{Reading}
 use Rattle.feed.specs.Lists.{listed}
 use Rattle.verdict.specs.Verdict.{verdict}
+use Rattle.engine.specs.Held.{meant}
 use Rattle.showing.specs.Whole.{InNumbers}
 use Rattle.embed.specs.declared.answer.Answer.{Answer}
 use Rattle.embed.specs.Answers.{RunsInNumbers, work}
-use Rattle.embed.proofs.Doing.{lacks}
+use Rattle.embed.proofs.Doing.{lacks, recorded_states}
 use Rattle.embed.proofs.exports.domgrauja_run_numbers.Goals as goal
 
 pub returns-in-Ok : goal.returns-in-Ok
 returns-in-Ok c =
     let w = c.record_numbers-width.result.0 in
     let x = c.record_numbers-width.result.1 in
-    let run = subst (λ (l : List Reading). InNumbers (verdict c.args.text.now) (listed l) c.args.states (length c.args.numbers.now) w c.record_numbers-width.new.numbers x) c.new-feed.ensures c.record_numbers-width.ensures in
-    work (x, run, ap (λ (a : Answer). record a { width = w }) c.of.ensures)
+    let b = meant c.in-Ok.engine in
+    let d = meant c.record_numbers-width.new.engine in
+    let run = subst (λ (l : List Reading). InNumbers (verdict c.args.text.now) (listed l) c.args.states w c.args.numbers.now c.record_numbers-width.new.numbers x b d) c.new-feed.ensures c.record_numbers-width.ensures in
+    let count = ap (λ (a : Answer). a.states) c.of.ensures ∙ recorded_states _ (listed c.args.readings.now) c.args.states _ 1 _ x run.recorder b d run.come in
+    work (x, b, d, run, count, ap (λ (a : Answer). record a { width = w }) c.of.ensures)
 
 pub returns-in-Err : goal.returns-in-Err
-returns-in-Err c = lacks (RunsInNumbers (verdict c.args.text.now) (listed c.args.readings.now) c.args.states (length c.args.numbers.now)) c.args.numbers.now c.lacking.result c.lacking.ensures
+returns-in-Err c = lacks (RunsInNumbers (verdict c.args.text.now) (listed c.args.readings.now) c.args.states c.args.numbers.now) c.args.numbers.now c.lacking.result c.lacking.ensures

@@ -3,7 +3,8 @@ use Rattle.std.proofs.Common.{Result, refl, sym, subst}
 use Rattle.sheet.specs.Content.{Content}
 use Rattle.verdict.specs.declared.refusals.Refusal.{Refusal}
 use Rattle.closing.specs.declared.closing.Closing.TheVariants.{NotLoaded, Advanced}
-use Rattle.calls.specs.Meant.{recording}
+use Rattle.calls.specs.Calls.{Abandons}
+use Rattle.calls.specs.Meant.{Meant, recording}
 use Rattle.calls.specs.Told.{told, to_abandon}
 use Rattle.engine.specs.Held.{meant}
 use Rattle.showing.specs.Whole.{Comes}
@@ -17,14 +18,16 @@ returns-in-Ok-clause-come g c =
     let before = recording R.states R.breadth R.spare c.args.recorder.now in
     let after = recording R.states R.breadth R.spare c.run.new.recorder in
     let a = c.run.result in
-    subst (λ (z : Result Content Refusal). Comes z (g.F.Feed.readings c.args.feed.now) c.args.states (R.capacity c.args.recorder.now) before (Advanced a) after) (sym v)
-    (a, refl, record { standing = (meant c.run.new.engine).standing; settled = c.run.ensures.whole })
+    subst (λ (z : Result Content Refusal). Comes z (g.F.Feed.readings c.args.feed.now) c.args.states (R.capacity c.args.recorder.now) before (Advanced a) after (meant c.args.engine.now) (meant c.run.new.engine)) (sym v)
+    (a, refl, record { settled = c.run.ensures.whole; sheet = c.run.ensures.sheet })
 
 pub returns-in-Err-clause-come : goal.returns-in-Err-clause-come
 returns-in-Err-clause-come g c =
     let R = g.R.Recorder in
     let x = c.in-Err.reason in
-    let r = refused_after c.args.text.now (meant c.args.engine.now) (meant c.abandon.new.self) (meant c.load.new.self) (told (to_abandon c.abandon.result)) x c.abandon.ensures c.in-Err.ensures in
+    let a = told (to_abandon c.abandon.result) in
+    let r = refused_after c.args.text.now (meant c.args.engine.now) (meant c.abandon.new.self) (meant c.load.new.self) a x c.abandon.ensures c.in-Err.ensures in
     let before = recording R.states R.breadth R.spare c.args.recorder.now in
-    subst (λ (z : Result Content Refusal). Comes z (g.F.Feed.readings c.args.feed.now) c.args.states (R.capacity c.args.recorder.now) before (NotLoaded x) before) (sym r.verdict)
-    (x, refl, r.told, refl)
+    let given_up = subst (λ (m : Meant). Abandons (meant c.args.engine.now) a m) (sym r.kept) c.abandon.ensures in
+    subst (λ (z : Result Content Refusal). Comes z (g.F.Feed.readings c.args.feed.now) c.args.states (R.capacity c.args.recorder.now) before (NotLoaded x) before (meant c.args.engine.now) (meant c.load.new.self)) (sym r.verdict)
+    (x, refl, r.told, refl, (a, given_up))

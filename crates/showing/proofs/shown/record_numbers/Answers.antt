@@ -1,8 +1,10 @@
 -- What stands in the numbers once the recorder is gone is the table of the record.
-use Rattle.std.proofs.Common.{ℕ, length, ap, rules}
+use Rattle.std.proofs.Common.{◌≡◌, ℕ, ◌*◌, List, length, get_or, ℤ, pos, refl, sym, ap, ◌∙◌, arith, rules}
+use Rattle.engine.specs.Held.{meant}
 use Rattle.record.specs.Rows.{capacity_of, rows}
-use Rattle.record.proofs.Tables.{length_rows}
-use Rattle.showing.proofs.Coming.{come_of}
+use Rattle.record.proofs.Tables.{length_rows, rows_fit}
+use Rattle.showing.specs.Whole.{Front}
+use Rattle.showing.proofs.Coming.{come_of, behind_of}
 use Rattle.showing.proofs.shown.record_numbers.Goals as goal
 
 pub returns : goal.returns
@@ -12,4 +14,9 @@ returns g c =
     let u = c.run_text-closing.new.recorder in
     let n = length_rows u.width u.count u.memory.now in
     let none = ap (λ (m : ℕ). rows t.width m t.memory.now) e.empty in
-    record { recorder = _; come = come_of _ (g.F.Feed.readings c.args.feed.now) c.args.states capacity_of _ (length c.args.numbers.now) _ t.width t.room c.run_text-closing.result _ (ap length e.holds) none e.wide e.roomy c.run_text-closing.ensures.come; wide = c.width.ensures.answer; kept = search rules }
+    let end = length (rows u.width u.count u.memory.now) * c.width.result in
+    let written : end ≡ u.count * u.width = rw (sym n, c.width.ensures.answer) refl in
+    let long : length u.memory.now ≡ length c.args.numbers.now = search rules in
+    let behind = behind_of end c.args.numbers.now u.memory.now (pos 0) long (λ k h. c.run_text-closing.ensures.owner.untouched k (omega (arith, h, written)) ∙ ap (λ (m : List ℤ). get_or m k (pos 0)) e.holds) in
+    let front : Front end c.args.numbers.now u.memory.now = record { inside = omega (arith, written, rows_fit u.count u.room u.width (length u.memory.now) u.whole); behind = behind } in
+    record { recorder = _; come = come_of _ (g.F.Feed.readings c.args.feed.now) c.args.states capacity_of _ (length c.args.numbers.now) _ t.width t.room c.run_text-closing.result _ (meant c.args.engine.now) (meant c.run_text-closing.new.engine) (ap length e.holds) none e.wide e.roomy c.run_text-closing.ensures.come; wide = c.width.ensures.answer; kept = search rules; front = search rules }

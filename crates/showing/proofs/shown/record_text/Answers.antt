@@ -1,9 +1,11 @@
 -- What stands in the bytes once the recorder is gone is the text of the record.
-use Rattle.std.proofs.Common.{ℕ, length, take, ap, ◌∙◌, rules}
+use Rattle.std.proofs.Common.{◌≡◌, ℕ, length, take, ap, ◌∙◌, arith, rules}
+use Rattle.engine.specs.Held.{meant}
 use Rattle.written.specs.Reading.{read_states}
 use Rattle.written.specs.Writing.{capacity_of}
 use Rattle.written.proofs.Readings.{none_read}
-use Rattle.showing.proofs.Coming.{come_of}
+use Rattle.showing.specs.Whole.{Front}
+use Rattle.showing.proofs.Coming.{come_of, behind_of, inside_of}
 use Rattle.showing.proofs.shown.record_text.Goals as goal
 
 pub returns : goal.returns
@@ -11,4 +13,9 @@ returns g c =
     let t = c.new-recorder.result in
     let e = c.new-recorder.ensures in
     let none = ap (λ (n : ℕ). read_states t.width n (take t.reach t.memory.now)) e.empty ∙ none_read t.width (take t.reach t.memory.now) in
-    record { recorder = _; come = come_of _ (g.F.Feed.readings c.args.feed.now) c.args.states capacity_of _ (length c.args.bytes.now) _ t.width t.room c.run_text-closing.result _ (ap length e.holds) none e.wide e.roomy c.run_text-closing.ensures.come; kept = search rules }
+    let u = c.run_text-closing.new.recorder in
+    let l = c.length.ensures in
+    let long : length u.memory.now ≡ length c.args.bytes.now = search rules in
+    let behind = behind_of c.length.result c.args.bytes.now u.memory.now 0 long (λ k h. let q = c.run_text-closing.ensures.owner.untouched k (omega (arith, h, l.reached)) in cc (q, e.holds)) in
+    let front : Front c.length.result c.args.bytes.now u.memory.now = record { inside = inside_of _ u.memory.now _ l.told l.answer; behind = behind } in
+    record { recorder = _; come = come_of _ (g.F.Feed.readings c.args.feed.now) c.args.states capacity_of _ (length c.args.bytes.now) _ t.width t.room c.run_text-closing.result _ (meant c.args.engine.now) (meant c.run_text-closing.new.engine) (ap length e.holds) none e.wide e.roomy c.run_text-closing.ensures.come; kept = search rules; front = search rules }
