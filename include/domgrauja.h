@@ -59,7 +59,7 @@ typedef struct domgrauja_reading {
     int64_t number;
 } domgrauja_reading;
 
-/* An answer. Numbers that it has no need of are 0. */
+/* An answer. Numbers that it has no need of are 0, but for `width` after domgrauja_run_numbers. */
 typedef struct domgrauja_answer {
     uint32_t number;    /* 0, or one of the numbers above */
     uint32_t line;      /* refused: the line that is meant, counted from 1, or 0 for the whole text */
@@ -86,7 +86,7 @@ domgrauja_answer domgrauja_check(const uint8_t *text, size_t text_length,
  *   number 0, finished:      the last state is recorded.
  *   number 0, not finished:  all states that were asked for are recorded, and none is the last.
  *   number 31 to 34:         the states before it are recorded.
- *   any other number:        nothing is recorded.
+ *   any other number:        nothing is recorded. A refused text is told ahead of 22.
  * `length` is at most `record_length`, and no byte of `record` behind it changes. `width` is 0.
  * Equal texts and readings give equal states: to go on, run again for more states. */
 domgrauja_answer domgrauja_run_text(const uint8_t *text, size_t text_length,
@@ -95,8 +95,9 @@ domgrauja_answer domgrauja_run_text(const uint8_t *text, size_t text_length,
                                     uint8_t *record, size_t record_length);
 
 /* The same, with the record as a table: variable J of state K is numbers[K * width + J].
- * `width` says how many variables the sheet has; where the text is refused it means nothing. `length` is 0.
- * `states` * `width` is at most `numbers_length`, and no number behind so many changes. */
+ * `width` says how many variables the sheet has; where the text is refused or there is no memory it means nothing.
+ * `length` is 0. For the `states` and `width` of the answer, `states` * `width` is at most `numbers_length`, and no
+ * number behind so many changes. */
 domgrauja_answer domgrauja_run_numbers(const uint8_t *text, size_t text_length,
                                        const domgrauja_reading *readings, size_t readings_length,
                                        size_t states,

@@ -89,6 +89,9 @@ mod domgrauja {
 
 use domgrauja::{Answer, Reading, check, run_numbers, run_text};
 
+/// Bytes that are room for any sentence.
+const MOST_SENTENCE: usize = 96;
+
 /// The most states that a run may be asked for.
 const MOST_STATES: usize = 1000;
 
@@ -100,7 +103,7 @@ const TOLD: [(i64, i64); 4] = [(1, 0), (0, 0), (1, 0), (1, 1)];
 
 /// Says why a text is no sheet.
 fn tell_refusal(text: &[u8]) {
-    let mut sentence = [0; 96];
+    let mut sentence = [0; MOST_SENTENCE];
     let answer = check(text, &mut sentence);
     let reason = String::from_utf8_lossy(&sentence[..answer.length]);
     println!("refused: {}, line {}, word {}: {reason}", answer.number, answer.line, answer.word);
@@ -141,7 +144,7 @@ fn main() -> ExitCode {
         answer = run_numbers(&text, &readings, MOST_STATES, &mut numbers);
         tell_run(answer);
     }
-    for (k, state) in numbers.chunks(answer.width).take(answer.states).enumerate() {
+    for (k, state) in numbers.chunks(sheet.width).take(answer.states).enumerate() {
         print!("state {k}:");
         for number in state {
             print!(" {number}");
