@@ -21,12 +21,23 @@ if [ -n "$other" ]; then
         [ -x "$program" ] && other=$program && break
     done
 fi
+if [ "$how" = counted ] && ! command -v valgrind > /dev/null; then
+    echo 'bench.sh: valgrind is missing; --count needs it' >&2
+    exit 2
+fi
 for program in "$ours" ${other:+"$other"}; do
     if [ ! -f "$program" ] || [ ! -x "$program" ]; then
         echo "bench.sh: no program $program" >&2
         exit 2
     fi
 done
+
+shopt -s nullglob
+sheets=("$workloads"/*.sheet)
+if [ "${#sheets[@]}" -eq 0 ]; then
+    echo "bench.sh: no sheet in $workloads" >&2
+    exit 2
+fi
 
 # What a program prints on a workload with so many repetitions: its words, one a line.
 said() { # program sheet repetitions
@@ -99,7 +110,7 @@ if [ -n "$other" ]; then
 else
     printf '%-8s %7s %12s %12s\n' sheet states $columns
 fi
-for sheet in "$workloads"/*.sheet; do
+for sheet in "${sheets[@]}"; do
     name=$(basename "$sheet" .sheet)
     states=$(states_of "$ours" "$sheet")
     if [ "$states" -eq 0 ]; then

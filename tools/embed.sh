@@ -1,6 +1,6 @@
 #!/usr/bin/env bash
 # Builds the static library, compiles and links the examples in C and in Rust with it, runs both, and compares what they print with examples/embed/stdout.
-# It wants rt, cc and rustc. Its last line is `embed: ok`, and its status 0, where both printed what they must.
+# It wants rt, cc and rustc, from 1.85 on. Its last line is `embed: ok`, and its status 0, where both printed what they must.
 set -u
 cd "$(dirname "$0")/.." || exit 1
 
