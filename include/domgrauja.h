@@ -14,6 +14,8 @@
  * - Each call makes what it needs with malloc and frees it before it returns. It keeps nothing,
  *   so calls from several threads do not meet. Do not call from a signal handler, or from the
  *   forked child of a process with threads.
+ * - As measured, a call takes less than 50,000 bytes from malloc and less than 32,000 bytes of stack.
+ *   Nothing proves it.
  */
 #ifndef DOMGRAUJA_H
 #define DOMGRAUJA_H
