@@ -1,5 +1,5 @@
 -- What a table of places says of a list, whose items are looked for in buckets.
-use Rattle.std.proofs.Common.{◌≡◌, ℕ, zero, suc, ◌<◌, ◌≤◌, true, false, ◌&&◌, eqb, ltb, List, [], ◌∷◌, ◌++◌, map, length, get_or, set, Some, None, Option, sym, refl, ap, ◌∙◌, subst, ⊎_elim, arith}
+use Rattle.std.proofs.Common.{◌≡◌, ℕ, zero, suc, ◌+◌, ◌%◌, ◌^◌, ◌<◌, ◌≤◌, true, false, ◌&&◌, eqb, ltb, List, [], ◌∷◌, ◌++◌, map, length, get_or, set, Some, None, Option, sym, refl, ap, ◌∙◌, subst, ⊎_elim, arith}
 use mathlib.Core.List.{map-append}
 use lib.ListN.{length-map}
 use lib.Seq.{get_or-append_seam, map-set_same}
@@ -7,7 +7,7 @@ use Rattle.std.specs.List.{list_all}
 use Rattle.std.specs.Option.{option_eq}
 use Rattle.std.proofs.lemmas.Bool.{and_parts, and_from, or_left, or_right, cond-true, ltb-true, ltb-false, eq-eqb, eqb-true, false_from_ne_true, cases_eq, false≢true}
 use Rattle.std.proofs.lemmas.Grind.{get_or-set_at}
-use Rattle.std.proofs.lemmas.List.{get_or-set_other, get_or_append_left, get_or-map, get_or_read_under}
+use Rattle.std.proofs.lemmas.List.{get_or-set_other, get_or_append_left, get_or-map, get_or_read_under, map-set}
 use Rattle.std.proofs.lemmas.List.Folds.{list_all-append}
 use Rattle.value.specs.declared.parts.End.{End}
 use Rattle.value.specs.declared.parts.End.TheVariants.{Unknown, On, Last}
@@ -20,7 +20,7 @@ use Rattle.meaning.specs.Work.{same_duty, has_duty, has_opened}
 use Rattle.meaning.proofs.Tests.{has_in, has_opened_says}
 use Rattle.board.specs.declared.parts.Row.{Row}
 use Rattle.board.specs.Store.{span_of, kept_row, kept_rows}
-use Rattle.board.specs.Buckets.{bucket, duty_in, followed_in, opened_in, row_in, is_in, leads, listed}
+use Rattle.board.specs.Buckets.{bucket, place_after, duty_in, followed_in, opened_in, row_in, is_in, leads, listed}
 use Rattle.board.proofs.Alike.{duty_alike}
 use Rattle.board.proofs.Rows.{no_row, ended_by}
 
@@ -70,6 +70,16 @@ listed-push f places l m x b n e h p k s =
     ap (λ z. listed (set places b n) (map f z)) s
     ∙ ap (listed (set places b n)) (map-append f l (x ∷ []) ∙ ap (λ o. map f l ++ o ∷ []) p)
     ∙ listed_more places (map f l) b n e h (k ∙ sym (length-map l f))
+
+-- what comes after n that are gone and k that are there has place k
+pub comes_at : (n k m : ℕ) → n < 2 ^ 32 → k < 2 ^ 32 → m ≡ (n + k) % 2 ^ 32 → place_after n m ≡ k
+comes_at n k m h p e = omega (arith, h, p, e)
+
+pub listed-come : (arrivals : List ℕ) (l m : List Duty) (d : Duty) (n b a : ℕ) → listed (map (place_after n) arrivals) (map duty_in l) ≡ true → b < length arrivals → b ≡ bucket d → n < 2 ^ 32 → length l < 2 ^ 32 → a ≡ (n + length l) % 2 ^ 32 → m ≡ l ++ d ∷ []
+    → listed (map (place_after n) (set arrivals b a)) (map duty_in m) ≡ true
+listed-come arrivals l m d n b a e h p q k s r =
+    ap (λ z. listed z (map duty_in m)) (map-set (place_after n) arrivals b a)
+    ∙ listed-push duty_in (map (place_after n) arrivals) l m d b (place_after n a) e (subst (λ z. b < z) (sym (length-map arrivals (place_after n))) h) (ap Some (sym p)) (comes_at n (length l) a q k s) r
 
 -- what stands at a place of the list
 pub at_place : {A : Type 0} (f : A → Option ℕ) (l k : List A) (i : ℕ) (x : A) → k ≡ l → true ≡ ltb i (length k) → x ≡ get_or k i x → get_or (map f l) i None ≡ f x

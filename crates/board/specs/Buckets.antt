@@ -1,14 +1,19 @@
 -- The buckets in which duties and openings are looked for. Assumes nothing.
-use Rattle.std.specs.Prelude.{ℕ, ◌+◌, ◌*◌, ◌%◌, Bool, true, false, if◌then◌else◌, List, Some, None, Option, ◌==◌, pos, unsigned_abs, unwrap_or, slice_index, slice_index_or}
+use Rattle.std.specs.Prelude.{ℕ, ◌+◌, ◌*◌, ◌-◌, ◌%◌, ◌^◌, Bool, true, false, if◌then◌else◌, List, Some, None, Option, ◌==◌, pos, unwrap_or, slice_index, slice_index_or}
 use Rattle.std.specs.List.{list_all}
+use Rattle.std.specs.Int.{w64, cast_unsigned}
 use Rattle.meaning.specs.declared.parts.Duty.{Duty}
 use Rattle.meaning.specs.declared.parts.Opening.{Opening}
 use Rattle.meaning.specs.declared.parts.Span.{Span}
 use Rattle.board.specs.declared.parts.Row.{Row}
 
--- the bucket of a duty, one of 1,024
+-- the bucket of a duty, one of 2,048
 abbrev pub bucket : Duty → ℕ
-bucket d = (d.statement * 67 + d.span * 643 + unsigned_abs (unwrap_or d.number (pos 0))) % 1024
+bucket d = (d.statement * 67 + d.span * 643 + cast_unsigned w64 (unwrap_or d.number (pos 0)) % 2048) % 2048
+
+-- the place of what came after m others, where n had come before the first of the list; counts wrap around at 2^32
+abbrev pub place_after : ℕ → ℕ → ℕ
+place_after n m = (m + (2 ^ 32 - n)) % 2 ^ 32
 
 -- where a duty is looked for: in its bucket
 abbrev pub duty_in : Duty → Option ℕ

@@ -5,15 +5,16 @@ ghost use Rattle.board.specs.Buckets.{bucket, opened_in};
 use meaning::{Duty, Span};
 
 // How many buckets there are.
-pub(crate) const BUCKETS: usize = 1024;
+pub(crate) const BUCKETS: usize = 2048;
 
 // The bucket of a duty. Each of its three parts counts; any other function of it would be as right.
 pub(crate) fn bucket(duty: &Duty) -> usize
     ensures { result ≡ bucket duty.now }
 {
-    let number = duty.number.unwrap_or(0).unsigned_abs();
+    // The number's last bits: to make it positive first would cost more.
+    let number = duty.number.unwrap_or(0).cast_unsigned() % BUCKETS as u64;
     let sum = u64::from(duty.statement) * 67 + u64::from(duty.span) * 643 + number;
-    // `as` stays: the rest is below 1024, and `try_from` would add an error that cannot come.
+    // `as` stays: the rest is below 2048, and `try_from` would add an error that cannot come.
     (sum % BUCKETS as u64) as usize
 }
 

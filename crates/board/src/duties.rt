@@ -1,9 +1,9 @@
 // A list of duties.
-ghost use Rattle.std.specs.Prelude.{◌≡◌, ◌<◌, ◌≤◌, true, IfOk, [], ◌∷◌, ◌++◌, map, vec_len, vec_capacity};
+ghost use Rattle.std.specs.Prelude.{◌≡◌, ◌<◌, ◌≤◌, true, false, IfOk, [], ◌∷◌, ◌++◌, map, slice_index, vec_len, vec_capacity};
 ghost use Rattle.std.specs.List.{slice_get};
 ghost use Rattle.meaning.specs.Work.{has_duty};
 ghost use Rattle.board.specs.Answers.{once, grown};
-ghost use Rattle.board.specs.Buckets.{duty_in, listed};
+ghost use Rattle.board.specs.Buckets.{bucket, place_after, duty_in, listed};
 
 use crate::board::MOST_DUTIES;
 use crate::buckets::{BUCKETS, bucket};
@@ -11,15 +11,18 @@ use meaning::{Duty, Stop};
 use std::alloc::{AllocError, Global};
 
 // A list of duties in the order in which they came, with a table that says quickly of most duties whether the list has them.
+// Duties are counted as they come. The count goes on when the list is cleared, and wraps around.
 #[derive(Drop)]
 pub(crate) struct DutyList {
     list: Vec<Duty>,
-    // for each bucket, the place of the duty that came to it last; where no duty of this bucket stands there, none has come
-    places: Vec<u16>,
+    // for each bucket, how many duties had come before the one that came to it last
+    arrivals: Vec<u32>,
+    // how many duties had come before the first of the list; what came to a bucket before that leads past the list's end
+    gone: u32,
     ghost few: { vec_len list ≤ 512 },
     ghost room: { 512 ≤ vec_capacity list },
-    ghost whole: { vec_len places ≡ 1024 },
-    ghost listed: { listed places.items (map duty_in list.items) ≡ true },
+    ghost whole: { vec_len arrivals ≡ 2048 },
+    ghost listed: { listed (map (place_after gone) arrivals.items) (map duty_in list.items) ≡ true },
 }
 
 impl DutyList {
@@ -28,8 +31,12 @@ impl DutyList {
         ensures { IfOk result (λ l. l.list.items ≡ []) }
     {
         let list = Vec::with_capacity(heap, MOST_DUTIES)?;
-        let places = vec![in heap; 0; BUCKETS]?;
-        Ok(DutyList { list, places })
+        let arrivals = vec![in heap; u32::MAX; BUCKETS]?;
+        Ok(DutyList {
+            list,
+            arrivals,
+            gone: 0,
+        })
     }
 
     // How many duties there are.
@@ -46,18 +53,15 @@ impl DutyList {
         self.list.get(place).copied()
     }
 
-    // Whether a duty is in the list. Mostly its bucket says so: no duty has come to it, or this one came last.
-    pub(crate) fn has(&self, duty: &Duty) -> bool
-        ensures { result ≡ has_duty duty.now self.now.list.items }
+    // Where the duty stands that came to a bucket last, or past the end if none has come since the list was cleared.
+    fn place_in(&self, own: usize) -> usize
+        requires { own < 2048 }
+        ensures { result ≡ slice_index (map (place_after self.now.gone) self.now.arrivals.items) own }
     {
-        let own = bucket(duty);
-        match self.list.get(usize::from(self.places[own])) {
-            None => false,
-            Some(last) => duty == last || (bucket(last) == own && self.search(duty)),
-        }
+        self.arrivals[own].wrapping_sub(self.gone) as usize
     }
 
-    // The same, for which the list is searched.
+    // Whether a duty is in the list, which is searched for it.
     fn search(&self, duty: &Duty) -> bool
         ensures { result ≡ has_duty duty.now self.now.list.items }
     {
@@ -65,18 +69,45 @@ impl DutyList {
         search::first_place(&self.list, duty).is_some()
     }
 
-    // Adds a duty, once.
+    // Adds a duty, once. Mostly its bucket says whether it is there: no duty has come to it, or this one came last.
     pub(crate) fn add_once(&mut self, duty: Duty) -> Result<bool, Stop>
         ensures answer { result ≡ once duty self.old.list.items }
         ensures items { self.new.list.items ≡ grown result duty self.old.list.items }
     {
-        if self.has(&duty) {
+        let own = bucket(&duty);
+        let Some(last) = self.list.get(self.place_in(own)) else {
+            return self.add_new(own, duty);
+        };
+        if duty == *last {
             return Ok(false);
         }
+        self.add_searched(own, duty)
+    }
+
+    // The same, for which the list is searched. It is seldom called, and the saving of registers for its loop stays out of `add_once`.
+    #[inline(never)]
+    fn add_searched(&mut self, own: usize, duty: Duty) -> Result<bool, Stop>
+        requires { own ≡ bucket duty }
+        ensures answer { result ≡ once duty self.old.list.items }
+        ensures items { self.new.list.items ≡ grown result duty self.old.list.items }
+    {
+        if self.search(&duty) {
+            return Ok(false);
+        }
+        self.add_new(own, duty)
+    }
+
+    // Adds a duty that is not there yet, if there is room for it.
+    fn add_new(&mut self, own: usize, duty: Duty) -> Result<bool, Stop>
+        requires place { own ≡ bucket duty }
+        requires absent { has_duty duty self.old.list.items ≡ false }
+        ensures answer { result ≡ once duty self.old.list.items }
+        ensures items { self.new.list.items ≡ grown result duty self.old.list.items }
+    {
         if self.list.len() >= MOST_DUTIES {
             return Err(Stop::Crowded);
         }
-        self.push(duty);
+        self.push_in(own, duty);
         Ok(true)
     }
 
@@ -85,8 +116,17 @@ impl DutyList {
         requires { vec_len self.old.list < 512 }
         ensures { self.new.list.items ≡ self.old.list.items ++ duty ∷ [] }
     {
+        self.push_in(bucket(&duty), duty);
+    }
+
+    // The same, where its bucket is known.
+    fn push_in(&mut self, own: usize, duty: Duty)
+        requires place { own ≡ bucket duty }
+        requires room { vec_len self.old.list < 512 }
+        ensures { self.new.list.items ≡ self.old.list.items ++ duty ∷ [] }
+    {
         // `as` stays: the place is below 512, and `try_from` would add an error that cannot come.
-        self.places[bucket(&duty)] = self.list.len() as u16;
+        self.arrivals[own] = self.gone.wrapping_add(self.list.len() as u32);
         self.list.push_reserved(duty);
     }
 
@@ -94,6 +134,7 @@ impl DutyList {
     pub(crate) fn clear(&mut self)
         ensures { self.new.list.items ≡ [] }
     {
+        self.gone = self.gone.wrapping_add(self.list.len() as u32);
         self.list.clear();
     }
 }
