@@ -1,13 +1,13 @@
 // The number of an expression.
 ghost use Rattle.std.specs.Prelude.{◌≡◌, ℕ, ◌<◌, vec_len};
-ghost use Rattle.value.specs.Claims.{worth, Total, Within};
+ghost use Rattle.value.specs.Claims.{worth, Tells, Total, Within};
 ghost use Rattle.value.specs.Scenes.{worth_in};
 ghost use Rattle.value.specs.Memory.{AllRight};
 
 use crate::memo::Memo;
 use crate::operate::{applied, negated};
-use crate::parts::End;
-use crate::scene::{Open, Scene};
+use crate::parts::{End, Open};
+use crate::scene::Scene;
 use sheet::{Expression, Sheet};
 
 // The number of expression `number` of `sheet`, or none where it is not yet known.
@@ -28,15 +28,36 @@ pub fn evaluate(
     if place >= sheet.tables.expressions.len() {
         return Some(0);
     }
-    let scene = Scene { sheet, values, end };
+    let scene = Scene {
+        sheet,
+        values,
+        end: Some(end),
+    };
     match scene.at_once(place) {
         Ok(z) => Some(z),
         Err(Open::Unknown) => None,
-        Err(Open::Deep) => {
+        Err(Open::More) => {
             memo.seen[0..place + 1].fill(false);
             worked(&scene, place, memo)
         }
     }
+}
+
+// The number of expression `number` of `sheet` where it is told at once, so that neither the end nor the memory is needed.
+// A caller for whom the end is dear asks this first, and `evaluate` where more must be asked.
+pub fn evaluate_at_once(sheet: &Sheet, values: &[Option<i64>], number: u16) -> Result<i64, Open>
+    ensures { (end : End) → Tells (worth sheet.now values.now end number) result }
+{
+    let place = usize::from(number);
+    if place >= sheet.tables.expressions.len() {
+        return Ok(0);
+    }
+    let scene = Scene {
+        sheet,
+        values,
+        end: None,
+    };
+    scene.at_once(place)
 }
 
 // The number of an expression that is there: as it is kept, or worked out.

@@ -8,3 +8,10 @@ pub enum End {
     On,
     Last,
 }
+
+// Why a number is not told at once: nothing says it yet, or more must be asked, as the end or the operands of operands.
+#[derive(Clone, Copy, Debug, PartialEq, Eq)]
+pub enum Open {
+    Unknown,
+    More,
+}

@@ -1,5 +1,5 @@
 -- What is told has all that is promised, and past the end the number is 0.
-use Rattle.std.proofs.Common.{◌≡◌, ◌≤◌, length, pos, None, Some, w64, to_z, of_z, vec_items, sym, ap, ◌∙◌, arith, rules}
+use Rattle.std.proofs.Common.{◌≡◌, ◌≤◌, length, pos, None, Some, w64, to_z, of_z, vec_items, refl, sym, ap, ◌∙◌, arith, rules}
 use Rattle.value.specs.Values.{known, valued}
 use Rattle.value.specs.Claims.{worth}
 use Rattle.value.proofs.Tables.{table_past}
@@ -21,7 +21,7 @@ returns-in-Ok c =
     let end = c.args.end in
     let i = c.args.number in
     let r = Some (to_z w64 (of_z w64 c.in-Ok.z)) in
-    let a = worth_kept s vs end i c.in-Ok.z (c.in-Ok.ensures ∙ ap (worth s vs end) c.from-place.ensures) in
+    let a = worth_kept s vs end i c.in-Ok.z (c.in-Ok.ensures end refl ∙ ap (worth s vs end) c.from-place.ensures) in
     record { answer = a; total = worth_total s vs end i r a; bound = worth_within s vs end i r a }
 
 pub returns-in-Err-Unknown : goal.returns-in-Err-Unknown
@@ -30,11 +30,12 @@ returns-in-Err-Unknown c =
     let vs = c.args.values.now in
     let end = c.args.end in
     let i = c.args.number in
+    let told = c.in-Err-Unknown.ensures end refl in
     let a : None ≡ worth s vs end i = search rules in
     record { answer = a; total = worth_total s vs end i None a; bound = tt }
 
-pub returns-in-Err-Deep : goal.returns-in-Err-Deep
-returns-in-Err-Deep c =
+pub returns-in-Err-More : goal.returns-in-Err-More
+returns-in-Err-More c =
     let s = c.args.sheet.now in
     let vs = c.args.values.now in
     let end = c.args.end in
