@@ -1,16 +1,15 @@
 -- What is told at once of an operation, from what is told of its operands.
-use Rattle.std.proofs.Common.{◌≡◌, ℕ, true, false, List, ℤ, Some, None, Ok, Err, Option, Result, refl, ap, ◌∙◌}
+use Rattle.std.proofs.Common.{◌≡◌, ℕ, false, ℤ, Some, None, Ok, Err, Option, Result, refl, ap, ◌∙◌}
 use Rattle.std.specs.Option.{ok_or}
 use Rattle.std.specs.Result.{result_ok}
 use Rattle.sheet.specs.declared.parts.Operator.{Operator}
 use Rattle.sheet.specs.declared.parts.Expression.{Expression}
 use Rattle.sheet.specs.declared.parts.Expression.TheVariants.{Num, Val, Pair, Not, Last}
-use Rattle.value.specs.declared.parts.End.{End}
 use Rattle.value.specs.declared.parts.Open.{Open}
 use Rattle.value.specs.declared.parts.Open.TheVariants.{Unknown, More}
-use Rattle.value.specs.Values.{once, twice, last_bit, known}
+use Rattle.value.specs.Values.{once, twice}
 use Rattle.value.specs.Claims.{Tells}
-use Rattle.value.specs.Scenes.{Allows, end_in, more, asks}
+use Rattle.value.specs.Scenes.{more, asks}
 
 -- a number or none, told as it is
 pub tells_ok_or : (o known : Option ℤ) → o ≡ known → Tells known (ok_or o Unknown)
@@ -38,28 +37,15 @@ more-ok_or None = refl
 more-ok_or (Some z) = refl
 
 -- what asks for no more is told as it is
-result_ok-tells : (o : Option ℤ) (r : Result ℤ Open) → Tells o r → more r ≡ false → result_ok r ≡ o
+pub result_ok-tells : (o : Option ℤ) (r : Result ℤ Open) → Tells o r → more r ≡ false → result_ok r ≡ o
 result_ok-tells o (Ok z) h e = h
 result_ok-tells o (Err Unknown) h e = h
 result_ok-tells o (Err More) h e = cc
 
--- what asks for more is no number
-result_ok-more : (r : Result ℤ Open) → more r ≡ true → result_ok r ≡ None
-result_ok-more (Ok z) e = cc
-result_ok-more (Err Unknown) e = refl
-result_ok-more (Err More) e = refl
-
--- an expression without operands is told as it is; the one that asks for more, `last` without an end, is unknown there
-pub plain_known : (end : Option End) (e : Expression) (f : ℕ → Option ℤ) (before : List (Option ℤ)) (r : Result ℤ Open) → ((o : Operator) (a b : ℕ) → e ≡ Pair o a b → ⊥)
-    → ((a : ℕ) → e ≡ Not a → ⊥) → Tells (known f (end_in end) before e) r → more r ≡ asks end e → result_ok r ≡ known f (end_in end) before e
-plain_known end (Num c) f before r h k t m = result_ok-tells (Some c) r t m
-plain_known end (Val x) f before r h k t m = result_ok-tells (f x) r t m
-plain_known end (Pair o a b) f before r h k t m = absurd (h o a b refl)
-plain_known end (Not a) f before r h k t m = absurd (k a refl)
-plain_known None Last f before r h k t m = result_ok-more r m
-plain_known (Some own) Last f before r h k t m = result_ok-tells (last_bit own) r t m
-
--- a scene allows the end that it says
-pub own_end : (end : Option End) → Allows end (end_in end)
-own_end None = tt
-own_end (Some own) = refl
+-- what is neither an operation nor `last` asks for no more
+pub asks_not : (e : Expression) → ((o : Operator) (a b : ℕ) → e ≡ Pair o a b → ⊥) → ((a : ℕ) → e ≡ Not a → ⊥) → (e ≡ Last → ⊥) → asks e ≡ false
+asks_not (Num c) h k l = refl
+asks_not (Val x) h k l = refl
+asks_not (Pair o a b) h k l = absurd (h o a b refl)
+asks_not (Not a) h k l = absurd (k a refl)
+asks_not Last h k l = absurd (l refl)

@@ -5,14 +5,14 @@ ghost use Rattle.value.specs.Scenes.{worth_in};
 ghost use Rattle.value.specs.Memory.{AllRight};
 
 use crate::memo::Memo;
-use crate::operate::{applied, negated};
+use crate::operate::{applied, ended, negated};
 use crate::parts::{End, Open};
 use crate::scene::Scene;
 use sheet::{Expression, Sheet};
 
 // The number of expression `number` of `sheet`, or none where it is not yet known.
 // `values` has the variables' numbers as far as they are known, and `end` says what is known of the piece's end.
-// The memory is needed for deep expressions alone.
+// `evaluate_at_once` is faster where it tells the number, and is asked first.
 pub fn evaluate(
     sheet: &Sheet,
     values: &[Option<i64>],
@@ -28,23 +28,12 @@ pub fn evaluate(
     if place >= sheet.tables.expressions.len() {
         return Some(0);
     }
-    let scene = Scene {
-        sheet,
-        values,
-        end: Some(end),
-    };
-    match scene.at_once(place) {
-        Ok(z) => Some(z),
-        Err(Open::Unknown) => None,
-        Err(Open::More) => {
-            memo.seen[0..place + 1].fill(false);
-            worked(&scene, place, memo)
-        }
-    }
+    memo.seen[0..place + 1].fill(false);
+    worked(&Scene { sheet, values }, end, place, memo)
 }
 
 // The number of expression `number` of `sheet` where it is told at once, so that neither the end nor the memory is needed.
-// A caller for whom the end is dear asks this first, and `evaluate` where more must be asked.
+// Where more must be asked, `evaluate` has the number.
 pub fn evaluate_at_once(sheet: &Sheet, values: &[Option<i64>], number: u16) -> Result<i64, Open>
     ensures { (end : End) → Tells (worth sheet.now values.now end number) result }
 {
@@ -52,45 +41,41 @@ pub fn evaluate_at_once(sheet: &Sheet, values: &[Option<i64>], number: u16) -> R
     if place >= sheet.tables.expressions.len() {
         return Ok(0);
     }
-    let scene = Scene {
-        sheet,
-        values,
-        end: None,
-    };
-    scene.at_once(place)
+    Scene { sheet, values }.at_once(place)
 }
 
 // The number of an expression that is there: as it is kept, or worked out.
 #[cycle(working)]
-fn operand(scene: &Scene, number: usize, memo: &mut Memo) -> Option<i64>
+fn operand(scene: &Scene, end: End, number: usize, memo: &mut Memo) -> Option<i64>
     requires there { number < vec_len scene.now.sheet.now.tables.expressions }
-    requires right { AllRight (worth_in scene.now) number memo.old }
-    ensures answer { result ≡ worth_in scene.now number }
-    ensures right { (n : ℕ) → AllRight (worth_in scene.now) n memo.old → AllRight (worth_in scene.now) n memo.new }
+    requires right { AllRight (worth_in scene.now end) number memo.old }
+    ensures answer { result ≡ worth_in scene.now end number }
+    ensures right { (n : ℕ) → AllRight (worth_in scene.now end) n memo.old → AllRight (worth_in scene.now end) n memo.new }
 {
     if memo.seen[number] {
         return Some(memo.numbers[number]);
     }
-    worked(scene, number, memo)
+    worked(scene, end, number, memo)
 }
 
 // Works out the number of an expression that is there, and keeps it where the expression has operands.
 // An operation with an unknown operand is unknown, so the first unknown ends the whole evaluation.
 // So each number that is kept is a known one, and no operation is worked out twice.
 #[cycle(working)]
-fn worked(scene: &Scene, number: usize, memo: &mut Memo) -> Option<i64>
+fn worked(scene: &Scene, end: End, number: usize, memo: &mut Memo) -> Option<i64>
     requires there { number < vec_len scene.now.sheet.now.tables.expressions }
-    requires right { AllRight (worth_in scene.now) number memo.old }
-    ensures answer { result ≡ worth_in scene.now number }
-    ensures right { (n : ℕ) → AllRight (worth_in scene.now) n memo.old → AllRight (worth_in scene.now) n memo.new }
+    requires right { AllRight (worth_in scene.now end) number memo.old }
+    ensures answer { result ≡ worth_in scene.now end number }
+    ensures right { (n : ℕ) → AllRight (worth_in scene.now end) n memo.old → AllRight (worth_in scene.now end) n memo.new }
 {
     let z = match scene.sheet.tables.expressions[number] {
         Expression::Pair(o, a, b) => {
-            let x = operand(scene, usize::from(a), memo)?;
-            let y = operand(scene, usize::from(b), memo)?;
+            let x = operand(scene, end, usize::from(a), memo)?;
+            let y = operand(scene, end, usize::from(b), memo)?;
             applied(o, x, y)
         }
-        Expression::Not(a) => negated(operand(scene, usize::from(a), memo)?),
+        Expression::Not(a) => negated(operand(scene, end, usize::from(a), memo)?),
+        Expression::Last => return ended(end),
         _ => return scene.leaf(number).ok(),
     };
     memo.seen[number] = true;

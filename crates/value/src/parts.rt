@@ -9,7 +9,7 @@ pub enum End {
     Last,
 }
 
-// Why a number is not told at once: nothing says it yet, or more must be asked, as the end or the operands of operands.
+// Why a number is not told at once: nothing says it yet, or it turns on the end or on operands of operands, and more must be asked.
 #[derive(Clone, Copy, Debug, PartialEq, Eq)]
 pub enum Open {
     Unknown,

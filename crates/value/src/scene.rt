@@ -1,26 +1,26 @@
 // What an evaluation works with, and what it tells at once.
 ghost use Rattle.std.specs.Prelude.{◌≡◌, ◌<◌, None, vec_len, slice_index_or};
 ghost use Rattle.sheet.specs.declared.parts.Expression.TheVariants.{Last};
-ghost use Rattle.value.specs.Claims.{worth, Tells};
-ghost use Rattle.value.specs.Scenes.{Allows, more, asks};
+ghost use Rattle.value.specs.declared.parts.End.{End};
+ghost use Rattle.value.specs.Claims.{Tells};
+ghost use Rattle.value.specs.Scenes.{worth_in, more, asks};
 
-use crate::operate::{applied, ended, fitting, negated};
-use crate::parts::{End, Open};
+use crate::operate::{applied, fitting, negated};
+use crate::parts::Open;
 use sheet::{Expression, Sheet};
 
-// A sheet, its variables' numbers as far as they are known, and what is known of the piece's end, or none where it has not been asked for.
+// A sheet and its variables' numbers as far as they are known.
 #[derive(Clone, Copy)]
 pub(crate) struct Scene<'a> {
     pub(crate) sheet: &'a Sheet,
     pub(crate) values: &'a [Option<i64>],
-    pub(crate) end: Option<End>,
 }
 
 impl<'a> Scene<'a> {
-    // The number of an expression that is there: at once, where none of its operands has operands.
+    // The number of an expression that is there: at once, where none of its operands has operands, and none is `last`.
     pub(crate) fn at_once(&self, number: usize) -> Result<i64, Open>
         requires there { number < vec_len self.now.sheet.now.tables.expressions }
-        ensures { (end : End) → Allows self.now.end end → Tells (worth self.now.sheet.now self.now.values.now end number) result }
+        ensures { (end : End) → Tells (worth_in self.now end number) result }
     {
         match self.sheet.tables.expressions[number] {
             Expression::Pair(o, a, b) => {
@@ -33,11 +33,11 @@ impl<'a> Scene<'a> {
         }
     }
 
-    // The number of an expression that is there and has no operands. One with operands asks for more, as does `last` without an end.
+    // The number of an expression that is there and has no operands. One with operands asks for more, and so does `last`, which turns on the end.
     pub(crate) fn leaf(&self, number: usize) -> Result<i64, Open>
         requires there { number < vec_len self.now.sheet.now.tables.expressions }
-        ensures told { (end : End) → Allows self.now.end end → Tells (worth self.now.sheet.now self.now.values.now end number) result }
-        ensures more { more result ≡ asks self.now.end (slice_index_or self.now.sheet.now.tables.expressions.items number Last) }
+        ensures told { (end : End) → Tells (worth_in self.now end number) result }
+        ensures more { more result ≡ asks (slice_index_or self.now.sheet.now.tables.expressions.items number Last) }
     {
         match self.sheet.tables.expressions[number] {
             Expression::Num(c) => Ok(i64::from(c)),
@@ -47,11 +47,7 @@ impl<'a> Scene<'a> {
                     Open::Unknown,
                 )
             }
-            Expression::Last => match self.end {
-                Some(end) => ended(end).ok_or(Open::Unknown),
-                None => Err(Open::More),
-            },
-            Expression::Pair(_, _, _) | Expression::Not(_) => Err(Open::More),
+            Expression::Pair(_, _, _) | Expression::Not(_) | Expression::Last => Err(Open::More),
         }
     }
 }

@@ -1,30 +1,29 @@
 -- Each expression's operands are lower, and what is known of them gives what is known of it. So what is kept for it is right.
 use Rattle.std.proofs.Common.{◌≡◌, ℕ, ◌<◌, ℤ, Some, Option, length, sym, ap, ◌∙◌, refl, subst, arith, w64, to_z, of_z, vec_items, rules}
-use Rattle.sheet.specs.declared.parts.Expression.TheVariants.{Pair, Not}
-use Rattle.value.specs.Values.{apply, denied, once, twice, knowns, valued}
-use Rattle.value.specs.Claims.{Tells}
-use Rattle.value.specs.Scenes.{worth_in, end_in, asks}
+use Rattle.sheet.specs.declared.parts.Expression.TheVariants.{Pair, Not, Last}
+use Rattle.value.specs.Values.{apply, denied, once, twice}
+use Rattle.value.specs.Scenes.{worth_in, asks}
 use Rattle.value.specs.Memory.{AllRight}
 use Rattle.value.proofs.Numbers.{pair_lower}
-use Rattle.value.proofs.Telling.{plain_known, own_end}
+use Rattle.value.proofs.Telling.{result_ok-tells, asks_not}
 use Rattle.value.proofs.Working.{stands, lawful, worth-entry, worth_within, worth_kept, pair_known, filled_right}
 use Rattle.value.proofs.evaluation.+working.Goals as goal
 use Rattle.value.proofs.evaluation.+working.Goals.{worked-in-Pair+in_ok-x-in-Pair+in_ok-y-in-Pair, worked-in-Not+in_ok-operand-in-Not}
 
 pub worked-returns-in_err-x-in-Pair-clause-answer : goal.worked-returns-in_err-x-in-Pair-clause-answer
 worked-returns-in_err-x-in-Pair-clause-answer t c =
-    let g = worth_in c.args.scene.now in
+    let g = worth_in c.args.scene.now c.args.end in
     let p = c.in-Pair in
     c.from_residual.ensures ∙ ap (λ (y : Option ℤ). twice (apply p.o) y (g p.b)) (c.in_err-x-in-Pair.ensures.answer ∙ ap g c.from.ensures)
-    ∙ sym (worth-entry c.args.scene.now.sheet.now c.args.number c.index.result.now (Pair p.o p.a p.b) c.requires.there c.index.ensures p.is c.args.scene.now.values.now (end_in c.args.scene.now.end))
+    ∙ sym (worth-entry c.args.scene.now.sheet.now c.args.number c.index.result.now (Pair p.o p.a p.b) c.requires.there c.index.ensures p.is c.args.scene.now.values.now c.args.end)
 
 pub worked-returns-in_err-y-in-Pair-clause-answer : goal.worked-returns-in_err-y-in-Pair-clause-answer
 worked-returns-in_err-y-in-Pair-clause-answer t c =
-    let g = worth_in c.args.scene.now in
+    let g = worth_in c.args.scene.now c.args.end in
     let p = c.in-Pair in
     c.from_residual-in_err-y-in-Pair.ensures ∙ ap (twice (apply p.o) (Some c.in_ok-x-in-Pair.x)) (c.in_err-y-in-Pair.ensures.answer ∙ ap g c.from-in-Pair.ensures)
     ∙ ap (λ (y : Option ℤ). twice (apply p.o) y (g p.b)) (c.in_ok-x-in-Pair.ensures.answer ∙ ap g c.from.ensures)
-    ∙ sym (worth-entry c.args.scene.now.sheet.now c.args.number c.index.result.now (Pair p.o p.a p.b) c.requires.there c.index.ensures p.is c.args.scene.now.values.now (end_in c.args.scene.now.end))
+    ∙ sym (worth-entry c.args.scene.now.sheet.now c.args.number c.index.result.now (Pair p.o p.a p.b) c.requires.there c.index.ensures p.is c.args.scene.now.values.now c.args.end)
 
 pub worked-operand-requires-in-Pair : goal.worked-operand-requires-in-Pair
 worked-operand-requires-in-Pair t c =
@@ -34,14 +33,14 @@ worked-operand-requires-in-Pair t c =
     let rule = lawful s c.args.number c.index.result.now (Pair p.o p.a p.b) c.requires.there c.index.ensures p.is in
     let lower = pair_lower (length (vec_items s.tables.variables)) c.args.number p.a p.b p.o rule in
     let below : j < c.args.number = subst (λ (k : ℕ). k < c.args.number) (sym c.from-in-Pair.ensures) lower.1 in
-    let right : AllRight (worth_in c.args.scene.now) j c.operand.new.memo = c.operand.ensures.right j (λ k h. c.requires.right k (omega arith)) in
+    let right : AllRight (worth_in c.args.scene.now c.args.end) j c.operand.new.memo = c.operand.ensures.right j (λ k h. c.requires.right k (omega arith)) in
     search rules
 
 pub worked-applied-z-requires : goal.worked-applied-z-requires
 worked-applied-z-requires t c =
     let s = c.args.scene.now.sheet.now in
     let vs = c.args.scene.now.values.now in
-    let end = end_in c.args.scene.now.end in
+    let end = c.args.end in
     let x = c.in_ok-x-in-Pair.x in
     let y = c.in_ok-y-in-Pair.y in
     let i = c.from.result in
@@ -52,30 +51,29 @@ worked-applied-z-requires t c =
 
 pub worked-returns-in_err-operand-in-Not-clause-answer : goal.worked-returns-in_err-operand-in-Not-clause-answer
 worked-returns-in_err-operand-in-Not-clause-answer t c =
-    c.from_residual-in_err-operand-in-Not.ensures ∙ ap (once denied) (c.in_err-operand-in-Not.ensures.answer ∙ ap (worth_in c.args.scene.now) c.from-in-Not.ensures)
-    ∙ sym (worth-entry c.args.scene.now.sheet.now c.args.number c.index.result.now (Not c.in-Not.a) c.requires.there c.index.ensures c.in-Not.is c.args.scene.now.values.now (end_in c.args.scene.now.end))
+    c.from_residual-in_err-operand-in-Not.ensures ∙ ap (once denied) (c.in_err-operand-in-Not.ensures.answer ∙ ap (worth_in c.args.scene.now c.args.end) c.from-in-Not.ensures)
+    ∙ sym (worth-entry c.args.scene.now.sheet.now c.args.number c.index.result.now (Not c.in-Not.a) c.requires.there c.index.ensures c.in-Not.is c.args.scene.now.values.now c.args.end)
+
+pub worked-returns-in-Last-clause-answer : goal.worked-returns-in-Last-clause-answer
+worked-returns-in-Last-clause-answer t c =
+    c.ended.ensures
+    ∙ sym (worth-entry c.args.scene.now.sheet.now c.args.number c.index.result.now Last c.requires.there c.index.ensures c.in-Last.is c.args.scene.now.values.now c.args.end)
 
 pub worked-returns-in_default-clause-answer : goal.worked-returns-in_default-clause-answer
 worked-returns-in_default-clause-answer t c =
-    let s = c.args.scene.now.sheet.now in
-    let vs = c.args.scene.now.values.now in
-    let end = c.args.scene.now.end in
     let e = c.index.result.now in
-    let f = valued (vec_items s.tables.variables) vs in
-    let at = stands s c.args.number e e c.requires.there c.index.ensures refl in
-    let entry = worth-entry s c.args.number e e c.requires.there c.index.ensures refl vs (end_in end) in
-    let told = subst (λ (o : Option ℤ). Tells o c.leaf.result) entry (c.leaf.ensures.told (end_in end) (own_end end)) in
-    c.ok.ensures.value
-    ∙ plain_known end e f (knowns f (end_in end) (vec_items s.tables.expressions)) c.leaf.result c.in_default.not-Pair c.in_default.not-Not told (c.leaf.ensures.more ∙ ap (asks end) at) ∙ sym entry
+    let at = stands c.args.scene.now.sheet.now c.args.number e e c.requires.there c.index.ensures refl in
+    let leaf = asks_not e c.in_default.not-Pair c.in_default.not-Not c.in_default.not-Last in
+    c.ok.ensures.value ∙ result_ok-tells (worth_in c.args.scene.now c.args.end c.args.number) c.leaf.result (c.leaf.ensures.told c.args.end) (c.leaf.ensures.more ∙ ap asks at ∙ leaf)
 
 pub worked-returns : goal.worked-returns
 worked-returns t c =
     let s = c.args.scene.now.sheet.now in
     let vs = c.args.scene.now.values.now in
-    let end = end_in c.args.scene.now.end in
+    let end = c.args.end in
     let i = c.args.number in
     let e = c.index.result.now in
-    let g = worth_in c.args.scene.now in
+    let g = worth_in c.args.scene.now c.args.end in
     let m = c.match-index.memo in
     let z = to_z w64 c.match-index.z-bits in
     let kept = worth_kept s vs end in

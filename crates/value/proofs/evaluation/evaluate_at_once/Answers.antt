@@ -13,4 +13,4 @@ returns-then-place-len c end =
     sym (table_past (known (valued (vec_items s.tables.variables) c.args.values.now) end) (Some (pos 0)) es c.args.number h)
 
 pub returns : goal.returns
-returns c end = subst (λ (i : ℕ). Tells (worth c.args.sheet.now c.args.values.now end i) c.at_once.result) c.from-place.ensures (c.at_once.ensures end tt)
+returns c end = subst (λ (i : ℕ). Tells (worth c.args.sheet.now c.args.values.now end i) c.at_once.result) c.from-place.ensures (c.at_once.ensures end)
