@@ -2,15 +2,14 @@
 use Rattle.std.specs.Prelude.{ℕ, Bool, true, false, ℤ, Ok, Err, Option, Result}
 use Rattle.sheet.specs.declared.parts.Expression.{Expression}
 use Rattle.sheet.specs.declared.parts.Expression.TheVariants.{Num, Val, Pair, Not, Last}
-use Rattle.value.specs.declared.parts.End.{End}
 use Rattle.value.specs.declared.parts.Open.{Open}
 use Rattle.value.specs.declared.parts.Open.TheVariants.{Unknown, More}
 use Rattle.value.specs.declared.scene.Scene.{Scene}
 use Rattle.value.specs.Claims.{worth}
 
--- what is known in a scene of the number of expression i, where this is known of the end
-abbrev pub worth_in : Scene → End → ℕ → Option ℤ
-worth_in s end i = worth s.sheet.now s.values.now end i
+-- what is known of the number of expression i
+abbrev pub worth_in : Scene → ℕ → Option ℤ
+worth_in s i = worth s.known.sheet.now s.known.values.now s.end i
 
 -- whether it was told that more must be asked
 abbrev pub more : Result ℤ Open → Bool

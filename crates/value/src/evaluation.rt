@@ -7,7 +7,7 @@ ghost use Rattle.value.specs.Memory.{AllRight};
 use crate::memo::Memo;
 use crate::operate::{applied, ended, negated};
 use crate::parts::{End, Open};
-use crate::scene::Scene;
+use crate::scene::{Known, Scene};
 use sheet::{Expression, Sheet};
 
 // The number of expression `number` of `sheet`, or none where it is not yet known.
@@ -29,7 +29,8 @@ pub fn evaluate(
         return Some(0);
     }
     memo.seen[0..place + 1].fill(false);
-    worked(&Scene { sheet, values }, end, place, memo)
+    let known = Known { sheet, values };
+    worked(&Scene { known, end }, place, memo)
 }
 
 // The number of expression `number` of `sheet` where it is told at once, so that neither the end nor the memory is needed.
@@ -41,42 +42,42 @@ pub fn evaluate_at_once(sheet: &Sheet, values: &[Option<i64>], number: u16) -> R
     if place >= sheet.tables.expressions.len() {
         return Ok(0);
     }
-    Scene { sheet, values }.at_once(place)
+    Known { sheet, values }.at_once(place)
 }
 
 // The number of an expression that is there: as it is kept, or worked out.
 #[cycle(working)]
-fn operand(scene: &Scene, end: End, number: usize, memo: &mut Memo) -> Option<i64>
-    requires there { number < vec_len scene.now.sheet.now.tables.expressions }
-    requires right { AllRight (worth_in scene.now end) number memo.old }
-    ensures answer { result ≡ worth_in scene.now end number }
-    ensures right { (n : ℕ) → AllRight (worth_in scene.now end) n memo.old → AllRight (worth_in scene.now end) n memo.new }
+fn operand(scene: &Scene, number: usize, memo: &mut Memo) -> Option<i64>
+    requires there { number < vec_len scene.now.known.sheet.now.tables.expressions }
+    requires right { AllRight (worth_in scene.now) number memo.old }
+    ensures answer { result ≡ worth_in scene.now number }
+    ensures right { (n : ℕ) → AllRight (worth_in scene.now) n memo.old → AllRight (worth_in scene.now) n memo.new }
 {
     if memo.seen[number] {
         return Some(memo.numbers[number]);
     }
-    worked(scene, end, number, memo)
+    worked(scene, number, memo)
 }
 
 // Works out the number of an expression that is there, and keeps it where the expression has operands.
 // An operation with an unknown operand is unknown, so the first unknown ends the whole evaluation.
 // So each number that is kept is a known one, and no operation is worked out twice.
 #[cycle(working)]
-fn worked(scene: &Scene, end: End, number: usize, memo: &mut Memo) -> Option<i64>
-    requires there { number < vec_len scene.now.sheet.now.tables.expressions }
-    requires right { AllRight (worth_in scene.now end) number memo.old }
-    ensures answer { result ≡ worth_in scene.now end number }
-    ensures right { (n : ℕ) → AllRight (worth_in scene.now end) n memo.old → AllRight (worth_in scene.now end) n memo.new }
+fn worked(scene: &Scene, number: usize, memo: &mut Memo) -> Option<i64>
+    requires there { number < vec_len scene.now.known.sheet.now.tables.expressions }
+    requires right { AllRight (worth_in scene.now) number memo.old }
+    ensures answer { result ≡ worth_in scene.now number }
+    ensures right { (n : ℕ) → AllRight (worth_in scene.now) n memo.old → AllRight (worth_in scene.now) n memo.new }
 {
-    let z = match scene.sheet.tables.expressions[number] {
+    let z = match scene.known.sheet.tables.expressions[number] {
         Expression::Pair(o, a, b) => {
-            let x = operand(scene, end, usize::from(a), memo)?;
-            let y = operand(scene, end, usize::from(b), memo)?;
+            let x = operand(scene, usize::from(a), memo)?;
+            let y = operand(scene, usize::from(b), memo)?;
             applied(o, x, y)
         }
-        Expression::Not(a) => negated(operand(scene, end, usize::from(a), memo)?),
-        Expression::Last => return ended(end),
-        _ => return scene.leaf(number).ok(),
+        Expression::Not(a) => negated(operand(scene, usize::from(a), memo)?),
+        Expression::Last => return ended(scene.end),
+        _ => return scene.known.leaf(number).ok(),
     };
     memo.seen[number] = true;
     memo.numbers[number] = z;

@@ -6,7 +6,7 @@ use Rattle.value.specs.declared.parts.Open.{Open}
 use Rattle.value.specs.Claims.{worth, Tells}
 use Rattle.value.proofs.Telling.{tells_ok_or}
 use Rattle.value.proofs.Working.{worth-entry, variable_worth, worth_kept}
-use Rattle.value.proofs.scene.Scene.leaf.Goals as goal
+use Rattle.value.proofs.scene.Known.leaf.Goals as goal
 
 pub returns-in-Num-clause-told : goal.returns-in-Num-clause-told
 returns-in-Num-clause-told c end =

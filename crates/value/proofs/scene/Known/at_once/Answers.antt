@@ -3,15 +3,14 @@ use Rattle.std.proofs.Common.{ℕ, ℤ, Some, Err, Option, sym, ap, ◌∙◌, s
 use Rattle.sheet.specs.declared.parts.Expression.TheVariants.{Pair, Not}
 use Rattle.value.specs.declared.parts.End.TheVariants.{Unknown}
 use Rattle.value.specs.Values.{apply, denied, once}
-use Rattle.value.specs.Claims.{Tells}
-use Rattle.value.specs.Scenes.{worth_in}
+use Rattle.value.specs.Claims.{worth, Tells}
 use Rattle.value.proofs.Telling.{tells_once, tells_first, tells_second}
 use Rattle.value.proofs.Working.{worth-entry, worth_within, worth_kept, pair_known}
-use Rattle.value.proofs.scene.Scene.at_once.Goals as goal
+use Rattle.value.proofs.scene.Known.at_once.Goals as goal
 
 pub returns-in_err-x-in-Pair : goal.returns-in_err-x-in-Pair
 returns-in_err-x-in-Pair c end =
-    let g = worth_in c.args.self.now end in
+    let g = worth c.args.self.now.sheet.now c.args.self.now.values.now end in
     let p = c.in-Pair in
     let why = c.in_err-x-in-Pair.field-0.0 in
     let operand = subst (λ (i : ℕ). Tells (g i) (Err why)) c.from.ensures (c.in_err-x-in-Pair.ensures.told end) in
@@ -21,7 +20,7 @@ returns-in_err-x-in-Pair c end =
 
 pub returns-in_err-y-in-Pair : goal.returns-in_err-y-in-Pair
 returns-in_err-y-in-Pair c end =
-    let g = worth_in c.args.self.now end in
+    let g = worth c.args.self.now.sheet.now c.args.self.now.values.now end in
     let p = c.in-Pair in
     let why = c.in_err-y-in-Pair.field-0.0 in
     let operand = subst (λ (i : ℕ). Tells (g i) (Err why)) c.from-in-Pair.ensures (c.in_err-y-in-Pair.ensures.told end) in
@@ -32,7 +31,7 @@ returns-in_err-y-in-Pair c end =
 
 pub returns-in_err-leaf-in-Not : goal.returns-in_err-leaf-in-Not
 returns-in_err-leaf-in-Not c end =
-    let g = worth_in c.args.self.now end in
+    let g = worth c.args.self.now.sheet.now c.args.self.now.values.now end in
     let a = c.in-Not.a in
     let why = c.in_err-leaf-in-Not.field-0.0 in
     let operand = subst (λ (i : ℕ). Tells (g i) (Err why)) c.from-in-Not.ensures (c.in_err-leaf-in-Not.ensures.told end) in
@@ -57,7 +56,7 @@ pub returns-in_ok-y-in-Pair : goal.returns-in_ok-y-in-Pair
 returns-in_ok-y-in-Pair c end =
     let s = c.args.self.now.sheet.now in
     let vs = c.args.self.now.values.now in
-    let g = worth_in c.args.self.now end in
+    let g = worth c.args.self.now.sheet.now c.args.self.now.values.now end in
     let p = c.in-Pair in
     let x = c.in_ok-x-in-Pair.x in
     let y = c.in_ok-y-in-Pair.y in
@@ -71,7 +70,7 @@ pub returns-in_ok-leaf-in-Not : goal.returns-in_ok-leaf-in-Not
 returns-in_ok-leaf-in-Not c end =
     let s = c.args.self.now.sheet.now in
     let vs = c.args.self.now.values.now in
-    let f = worth_kept s vs end c.from-in-Not.result c.in_ok-leaf-in-Not.field-0 (c.in_ok-leaf-in-Not.ensures.told end) ∙ ap (worth_in c.args.self.now end) c.from-in-Not.ensures in
+    let f = worth_kept s vs end c.from-in-Not.result c.in_ok-leaf-in-Not.field-0 (c.in_ok-leaf-in-Not.ensures.told end) ∙ ap (worth c.args.self.now.sheet.now c.args.self.now.values.now end) c.from-in-Not.ensures in
     worth_kept s vs end c.args.number c.negated.result
     (ap (λ (y : ℤ). Some y) c.negated.ensures ∙ ap (once denied) f
     ∙ sym (worth-entry s c.args.number c.index.result.now (Not c.in-Not.a) c.requires.there c.index.ensures c.in-Not.is vs end))
