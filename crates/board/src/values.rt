@@ -11,7 +11,7 @@ ghost use Rattle.board.specs.Held.{held, sheet_of};
 use crate::board::Board;
 use meaning::Stop;
 use sheet::Sheet;
-use value::Memo;
+use value::{Memo, Open};
 
 impl Board {
     // Gives a variable of the sheet its number. A contradiction is placed at `place`.
@@ -47,6 +47,13 @@ impl Board {
         requires { (f : ℕ → ℕ → Maybe ℤ) (x : ℕ) → FitSays (under (sheet_of sheet.now) f) x ((held self.now).known x) }
         ensures { result ≡ known_at sheet.now.tables.expressions.items (held self.now).known ((held self.now).ends serial) expression }
     {
-        value::evaluate(sheet, &self.values, self.end_of(serial), expression, memo)
+        // The end is looked up only where the number turns on more than the values.
+        match value::evaluate_at_once(sheet, &self.values, expression) {
+            Ok(z) => Some(z),
+            Err(Open::Unknown) => None,
+            Err(Open::More) => {
+                value::evaluate(sheet, &self.values, self.end_of(serial), expression, memo)
+            }
+        }
     }
 }

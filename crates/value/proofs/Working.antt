@@ -30,7 +30,7 @@ module _
   inside = rw (← s.tables.expressions.ok.0) there
 
   -- it keeps the rules of a sheet
-  lawful : expression_ok (length (vec_items s.tables.variables)) i e ≡ true
+  pub lawful : expression_ok (length (vec_items s.tables.variables)) i e ≡ true
   lawful = sym (ap (expression_ok (length (vec_items s.tables.variables)) i) stands) ∙ s.operands i inside
 
   -- what is known of its number comes from what is known of its operands

@@ -1,18 +1,18 @@
 // The number of an expression.
 ghost use Rattle.std.specs.Prelude.{◌≡◌, ℕ, ◌<◌, vec_len};
-ghost use Rattle.value.specs.Claims.{worth, Total, Within};
+ghost use Rattle.value.specs.Claims.{worth, Tells, Total, Within};
 ghost use Rattle.value.specs.Scenes.{worth_in};
 ghost use Rattle.value.specs.Memory.{AllRight};
 
 use crate::memo::Memo;
-use crate::operate::{applied, negated};
-use crate::parts::End;
-use crate::scene::{Open, Scene};
+use crate::operate::{applied, ended, negated};
+use crate::parts::{End, Open};
+use crate::scene::{Known, Scene};
 use sheet::{Expression, Sheet};
 
 // The number of expression `number` of `sheet`, or none where it is not yet known.
 // `values` has the variables' numbers as far as they are known, and `end` says what is known of the piece's end.
-// The memory is needed for deep expressions alone.
+// `evaluate_at_once` is faster where it tells the number, and is asked first.
 pub fn evaluate(
     sheet: &Sheet,
     values: &[Option<i64>],
@@ -28,21 +28,27 @@ pub fn evaluate(
     if place >= sheet.tables.expressions.len() {
         return Some(0);
     }
-    let scene = Scene { sheet, values, end };
-    match scene.at_once(place) {
-        Ok(z) => Some(z),
-        Err(Open::Unknown) => None,
-        Err(Open::Deep) => {
-            memo.seen[0..place + 1].fill(false);
-            worked(&scene, place, memo)
-        }
+    memo.seen[0..place + 1].fill(false);
+    let known = Known { sheet, values };
+    worked(&Scene { known, end }, place, memo)
+}
+
+// The number of expression `number` of `sheet` where it is told at once, so that neither the end nor the memory is needed.
+// Where more must be asked, `evaluate` has the number.
+pub fn evaluate_at_once(sheet: &Sheet, values: &[Option<i64>], number: u16) -> Result<i64, Open>
+    ensures { (end : End) → Tells (worth sheet.now values.now end number) result }
+{
+    let place = usize::from(number);
+    if place >= sheet.tables.expressions.len() {
+        return Ok(0);
     }
+    Known { sheet, values }.at_once(place)
 }
 
 // The number of an expression that is there: as it is kept, or worked out.
 #[cycle(working)]
 fn operand(scene: &Scene, number: usize, memo: &mut Memo) -> Option<i64>
-    requires there { number < vec_len scene.now.sheet.now.tables.expressions }
+    requires there { number < vec_len scene.now.known.sheet.now.tables.expressions }
     requires right { AllRight (worth_in scene.now) number memo.old }
     ensures answer { result ≡ worth_in scene.now number }
     ensures right { (n : ℕ) → AllRight (worth_in scene.now) n memo.old → AllRight (worth_in scene.now) n memo.new }
@@ -58,19 +64,20 @@ fn operand(scene: &Scene, number: usize, memo: &mut Memo) -> Option<i64>
 // So each number that is kept is a known one, and no operation is worked out twice.
 #[cycle(working)]
 fn worked(scene: &Scene, number: usize, memo: &mut Memo) -> Option<i64>
-    requires there { number < vec_len scene.now.sheet.now.tables.expressions }
+    requires there { number < vec_len scene.now.known.sheet.now.tables.expressions }
     requires right { AllRight (worth_in scene.now) number memo.old }
     ensures answer { result ≡ worth_in scene.now number }
     ensures right { (n : ℕ) → AllRight (worth_in scene.now) n memo.old → AllRight (worth_in scene.now) n memo.new }
 {
-    let z = match scene.sheet.tables.expressions[number] {
+    let z = match scene.known.sheet.tables.expressions[number] {
         Expression::Pair(o, a, b) => {
             let x = operand(scene, usize::from(a), memo)?;
             let y = operand(scene, usize::from(b), memo)?;
             applied(o, x, y)
         }
         Expression::Not(a) => negated(operand(scene, usize::from(a), memo)?),
-        _ => return scene.leaf(number).ok(),
+        Expression::Last => return ended(scene.end),
+        _ => return scene.known.leaf(number).ok(),
     };
     memo.seen[number] = true;
     memo.numbers[number] = z;

@@ -7,10 +7,10 @@ mod operate;
 mod parts;
 mod scene;
 
-pub use crate::evaluation::evaluate;
+pub use crate::evaluation::{evaluate, evaluate_at_once};
 pub use crate::memo::Memo;
 pub use crate::operate::in_range;
-pub use crate::parts::End;
+pub use crate::parts::{End, Open};
 
 #[cfg(test)]
 mod tests;

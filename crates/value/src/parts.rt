@@ -8,3 +8,10 @@ pub enum End {
     On,
     Last,
 }
+
+// Why a number is not told at once: nothing says it yet, or it turns on the end or on operands of operands, and more must be asked.
+#[derive(Clone, Copy, Debug, PartialEq, Eq)]
+pub enum Open {
+    Unknown,
+    More,
+}

@@ -1,32 +1,32 @@
 // What an evaluation works with, and what it tells at once.
 ghost use Rattle.std.specs.Prelude.{◌≡◌, ◌<◌, None, vec_len, slice_index_or};
 ghost use Rattle.sheet.specs.declared.parts.Expression.TheVariants.{Last};
-ghost use Rattle.value.specs.Scenes.{worth_in, Tells, deep, composed};
+ghost use Rattle.value.specs.Claims.{worth, Tells};
+ghost use Rattle.value.specs.Scenes.{more, asks};
 
-use crate::operate::{applied, ended, fitting, negated};
-use crate::parts::End;
+use crate::operate::{applied, fitting, negated};
+use crate::parts::{End, Open};
 use sheet::{Expression, Sheet};
 
-// A sheet, its variables' numbers as far as they are known, and what is known of the piece's end.
+// A sheet and its variables' numbers as far as they are known.
 #[derive(Clone, Copy)]
-pub(crate) struct Scene<'a> {
+pub(crate) struct Known<'a> {
     pub(crate) sheet: &'a Sheet,
     pub(crate) values: &'a [Option<i64>],
+}
+
+// That, and what is known of the piece's end.
+#[derive(Clone, Copy)]
+pub(crate) struct Scene<'a> {
+    pub(crate) known: Known<'a>,
     pub(crate) end: End,
 }
 
-// Why a number is not told at once: nothing says it yet, or the expression has operands that have operands.
-#[derive(Clone, Copy)]
-pub(crate) enum Open {
-    Unknown,
-    Deep,
-}
-
-impl<'a> Scene<'a> {
-    // The number of an expression that is there: at once, where none of its operands has operands.
+impl<'a> Known<'a> {
+    // The number of an expression that is there: at once, where none of its operands has operands, and none is `last`.
     pub(crate) fn at_once(&self, number: usize) -> Result<i64, Open>
         requires there { number < vec_len self.now.sheet.now.tables.expressions }
-        ensures { Tells (worth_in self.now number) result }
+        ensures { (end : End) → Tells (worth self.now.sheet.now self.now.values.now end number) result }
     {
         match self.sheet.tables.expressions[number] {
             Expression::Pair(o, a, b) => {
@@ -39,11 +39,11 @@ impl<'a> Scene<'a> {
         }
     }
 
-    // The number of an expression that is there and has no operands. One with operands counts as deep.
+    // The number of an expression that is there and has no operands. One with operands asks for more, and so does `last`, which turns on the end.
     pub(crate) fn leaf(&self, number: usize) -> Result<i64, Open>
         requires there { number < vec_len self.now.sheet.now.tables.expressions }
-        ensures told { Tells (worth_in self.now number) result }
-        ensures deep { deep result ≡ composed (slice_index_or self.now.sheet.now.tables.expressions.items number Last) }
+        ensures told { (end : End) → Tells (worth self.now.sheet.now self.now.values.now end number) result }
+        ensures more { more result ≡ asks (slice_index_or self.now.sheet.now.tables.expressions.items number Last) }
     {
         match self.sheet.tables.expressions[number] {
             Expression::Num(c) => Ok(i64::from(c)),
@@ -53,8 +53,7 @@ impl<'a> Scene<'a> {
                     Open::Unknown,
                 )
             }
-            Expression::Last => ended(self.end).ok_or(Open::Unknown),
-            Expression::Pair(_, _, _) | Expression::Not(_) => Err(Open::Deep),
+            Expression::Pair(_, _, _) | Expression::Not(_) | Expression::Last => Err(Open::More),
         }
     }
 }

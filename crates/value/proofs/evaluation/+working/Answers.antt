@@ -1,11 +1,12 @@
 -- Each expression's operands are lower, and what is known of them gives what is known of it. So what is kept for it is right.
-use Rattle.std.proofs.Common.{◌≡◌, ℕ, ℤ, Some, Option, sym, ap, ◌∙◌, refl, subst, arith, w64, to_z, of_z}
-use Rattle.sheet.specs.declared.parts.Expression.TheVariants.{Pair, Not}
+use Rattle.std.proofs.Common.{◌≡◌, ℕ, ◌<◌, ℤ, Some, Option, length, sym, ap, ◌∙◌, refl, subst, arith, w64, to_z, of_z, vec_items, rules}
+use Rattle.sheet.specs.declared.parts.Expression.TheVariants.{Pair, Not, Last}
 use Rattle.value.specs.Values.{apply, denied, once, twice}
-use Rattle.value.specs.Scenes.{worth_in, composed}
+use Rattle.value.specs.Scenes.{worth_in, asks}
 use Rattle.value.specs.Memory.{AllRight}
-use Rattle.value.proofs.Telling.{result_ok-tells, composed_not}
-use Rattle.value.proofs.Working.{stands, worth-entry, worth_within, worth_kept, pair_known, filled_right}
+use Rattle.value.proofs.Numbers.{pair_lower}
+use Rattle.value.proofs.Telling.{result_ok-tells, asks_not}
+use Rattle.value.proofs.Working.{stands, lawful, worth-entry, worth_within, worth_kept, pair_known, filled_right}
 use Rattle.value.proofs.evaluation.+working.Goals as goal
 use Rattle.value.proofs.evaluation.+working.Goals.{worked-in-Pair+in_ok-x-in-Pair+in_ok-y-in-Pair, worked-in-Not+in_ok-operand-in-Not}
 
@@ -14,7 +15,7 @@ worked-returns-in_err-x-in-Pair-clause-answer t c =
     let g = worth_in c.args.scene.now in
     let p = c.in-Pair in
     c.from_residual.ensures ∙ ap (λ (y : Option ℤ). twice (apply p.o) y (g p.b)) (c.in_err-x-in-Pair.ensures.answer ∙ ap g c.from.ensures)
-    ∙ sym (worth-entry c.args.scene.now.sheet.now c.args.number c.index.result.now (Pair p.o p.a p.b) c.requires.there c.index.ensures p.is c.args.scene.now.values.now c.args.scene.now.end)
+    ∙ sym (worth-entry c.args.scene.now.known.sheet.now c.args.number c.index.result.now (Pair p.o p.a p.b) c.requires.there c.index.ensures p.is c.args.scene.now.known.values.now c.args.scene.now.end)
 
 pub worked-returns-in_err-y-in-Pair-clause-answer : goal.worked-returns-in_err-y-in-Pair-clause-answer
 worked-returns-in_err-y-in-Pair-clause-answer t c =
@@ -22,12 +23,23 @@ worked-returns-in_err-y-in-Pair-clause-answer t c =
     let p = c.in-Pair in
     c.from_residual-in_err-y-in-Pair.ensures ∙ ap (twice (apply p.o) (Some c.in_ok-x-in-Pair.x)) (c.in_err-y-in-Pair.ensures.answer ∙ ap g c.from-in-Pair.ensures)
     ∙ ap (λ (y : Option ℤ). twice (apply p.o) y (g p.b)) (c.in_ok-x-in-Pair.ensures.answer ∙ ap g c.from.ensures)
-    ∙ sym (worth-entry c.args.scene.now.sheet.now c.args.number c.index.result.now (Pair p.o p.a p.b) c.requires.there c.index.ensures p.is c.args.scene.now.values.now c.args.scene.now.end)
+    ∙ sym (worth-entry c.args.scene.now.known.sheet.now c.args.number c.index.result.now (Pair p.o p.a p.b) c.requires.there c.index.ensures p.is c.args.scene.now.known.values.now c.args.scene.now.end)
+
+pub worked-operand-requires-in-Pair : goal.worked-operand-requires-in-Pair
+worked-operand-requires-in-Pair t c =
+    let s = c.args.scene.now.known.sheet.now in
+    let p = c.in-Pair in
+    let j = c.from-in-Pair.result in
+    let rule = lawful s c.args.number c.index.result.now (Pair p.o p.a p.b) c.requires.there c.index.ensures p.is in
+    let lower = pair_lower (length (vec_items s.tables.variables)) c.args.number p.a p.b p.o rule in
+    let below : j < c.args.number = subst (λ (k : ℕ). k < c.args.number) (sym c.from-in-Pair.ensures) lower.1 in
+    let right : AllRight (worth_in c.args.scene.now) j c.operand.new.memo = c.operand.ensures.right j (λ k h. c.requires.right k (omega arith)) in
+    search rules
 
 pub worked-applied-z-requires : goal.worked-applied-z-requires
 worked-applied-z-requires t c =
-    let s = c.args.scene.now.sheet.now in
-    let vs = c.args.scene.now.values.now in
+    let s = c.args.scene.now.known.sheet.now in
+    let vs = c.args.scene.now.known.values.now in
     let end = c.args.scene.now.end in
     let x = c.in_ok-x-in-Pair.x in
     let y = c.in_ok-y-in-Pair.y in
@@ -40,19 +52,24 @@ worked-applied-z-requires t c =
 pub worked-returns-in_err-operand-in-Not-clause-answer : goal.worked-returns-in_err-operand-in-Not-clause-answer
 worked-returns-in_err-operand-in-Not-clause-answer t c =
     c.from_residual-in_err-operand-in-Not.ensures ∙ ap (once denied) (c.in_err-operand-in-Not.ensures.answer ∙ ap (worth_in c.args.scene.now) c.from-in-Not.ensures)
-    ∙ sym (worth-entry c.args.scene.now.sheet.now c.args.number c.index.result.now (Not c.in-Not.a) c.requires.there c.index.ensures c.in-Not.is c.args.scene.now.values.now c.args.scene.now.end)
+    ∙ sym (worth-entry c.args.scene.now.known.sheet.now c.args.number c.index.result.now (Not c.in-Not.a) c.requires.there c.index.ensures c.in-Not.is c.args.scene.now.known.values.now c.args.scene.now.end)
+
+pub worked-returns-in-Last-clause-answer : goal.worked-returns-in-Last-clause-answer
+worked-returns-in-Last-clause-answer t c =
+    c.ended.ensures
+    ∙ sym (worth-entry c.args.scene.now.known.sheet.now c.args.number c.index.result.now Last c.requires.there c.index.ensures c.in-Last.is c.args.scene.now.known.values.now c.args.scene.now.end)
 
 pub worked-returns-in_default-clause-answer : goal.worked-returns-in_default-clause-answer
 worked-returns-in_default-clause-answer t c =
     let e = c.index.result.now in
-    let at = stands c.args.scene.now.sheet.now c.args.number e e c.requires.there c.index.ensures refl in
-    let leaf = composed_not e c.in_default.not-Pair c.in_default.not-Not in
-    c.ok.ensures.value ∙ result_ok-tells (worth_in c.args.scene.now c.args.number) c.leaf.result c.leaf.ensures.told (c.leaf.ensures.deep ∙ ap composed at ∙ leaf)
+    let at = stands c.args.scene.now.known.sheet.now c.args.number e e c.requires.there c.index.ensures refl in
+    let leaf = asks_not e c.in_default.not-Pair c.in_default.not-Not c.in_default.not-Last in
+    c.ok.ensures.value ∙ result_ok-tells (worth_in c.args.scene.now c.args.number) c.leaf.result (c.leaf.ensures.told c.args.scene.now.end) (c.leaf.ensures.more ∙ ap asks at ∙ leaf)
 
 pub worked-returns : goal.worked-returns
 worked-returns t c =
-    let s = c.args.scene.now.sheet.now in
-    let vs = c.args.scene.now.values.now in
+    let s = c.args.scene.now.known.sheet.now in
+    let vs = c.args.scene.now.known.values.now in
     let end = c.args.scene.now.end in
     let i = c.args.number in
     let e = c.index.result.now in

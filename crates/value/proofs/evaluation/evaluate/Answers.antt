@@ -1,9 +1,9 @@
 -- What is told has all that is promised, and past the end the number is 0.
-use Rattle.std.proofs.Common.{◌≡◌, ◌≤◌, length, pos, None, Some, w64, to_z, of_z, vec_items, sym, ap, ◌∙◌, arith, rules}
+use Rattle.std.proofs.Common.{◌≤◌, length, pos, Some, vec_items, sym, ap, ◌∙◌, arith}
 use Rattle.value.specs.Values.{known, valued}
 use Rattle.value.specs.Claims.{worth}
 use Rattle.value.proofs.Tables.{table_past}
-use Rattle.value.proofs.Working.{worth_kept, worth_within, worth_total}
+use Rattle.value.proofs.Working.{worth_within, worth_total}
 use Rattle.value.proofs.evaluation.evaluate.Goals as goal
 
 pub returns-then-place-len : goal.returns-then-place-len
@@ -14,27 +14,8 @@ returns-then-place-len c =
     let a = sym (table_past (known (valued (vec_items s.tables.variables) c.args.values.now) c.args.end) (Some (pos 0)) es c.args.number h) in
     record { answer = a; total = worth_total s c.args.values.now c.args.end c.args.number (Some (pos 0)) a; bound = omega arith }
 
-pub returns-in-Ok : goal.returns-in-Ok
-returns-in-Ok c =
-    let s = c.args.sheet.now in
-    let vs = c.args.values.now in
-    let end = c.args.end in
-    let i = c.args.number in
-    let r = Some (to_z w64 (of_z w64 c.in-Ok.z)) in
-    let a = worth_kept s vs end i c.in-Ok.z (c.in-Ok.ensures ∙ ap (worth s vs end) c.from-place.ensures) in
-    record { answer = a; total = worth_total s vs end i r a; bound = worth_within s vs end i r a }
-
-pub returns-in-Err-Unknown : goal.returns-in-Err-Unknown
-returns-in-Err-Unknown c =
-    let s = c.args.sheet.now in
-    let vs = c.args.values.now in
-    let end = c.args.end in
-    let i = c.args.number in
-    let a : None ≡ worth s vs end i = search rules in
-    record { answer = a; total = worth_total s vs end i None a; bound = tt }
-
-pub returns-in-Err-Deep : goal.returns-in-Err-Deep
-returns-in-Err-Deep c =
+pub returns : goal.returns
+returns c =
     let s = c.args.sheet.now in
     let vs = c.args.values.now in
     let end = c.args.end in

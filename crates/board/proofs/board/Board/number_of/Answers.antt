@@ -1,8 +1,13 @@
--- Every number that is known is in its range, so none is passed over.
-use Rattle.std.proofs.Common.{ℕ, ℤ, None, vec_items, Option, ap, ◌∙◌}
+-- Every number that is known is in its range, so none is passed over. What is told at once is right for every end, so for the span's.
+use Rattle.std.proofs.Common.{◌≡◌, ℕ, ℤ, None, Option, ap, ◌∙◌, rules, vec_items}
+use Rattle.sheet.specs.declared.kept.Sheet.{Sheet}
 use Rattle.value.specs.declared.parts.End.{End}
 use Rattle.value.specs.Values.{known_at}
+use Rattle.value.specs.Claims.{worth}
+use Rattle.value.proofs.Working.{worth_kept}
 use Rattle.meaning.specs.Intervals.{under}
+use Rattle.meaning.specs.Order.{FitSays}
+use Rattle.board.specs.declared.board.Board.{Board}
 use Rattle.board.specs.Held.{held, sheet_of}
 use Rattle.board.proofs.Finds.{known_values}
 use Rattle.board.proofs.board.Board.number_of.Goals as goal
@@ -10,11 +15,31 @@ use Rattle.board.proofs.board.Board.number_of.Goals as goal
 abbrev silence : ℕ → ℕ → Option ℤ
 silence x k = None
 
-pub returns : goal.returns
-returns c =
+-- what is known of a number, from the values as they are kept, is what is known from those that are held
+held_worth : (s : Sheet) (b : Board) (end : End) (i : ℕ) → ((f : ℕ → ℕ → Option ℤ) (x : ℕ) → FitSays (under (sheet_of s) f) x ((held b).known x))
+    → worth s b.values end i ≡ known_at (vec_items s.tables.expressions) (held b).known end i
+held_worth s b end i fit =
+    ap (λ (f : ℕ → Option ℤ). known_at (vec_items s.tables.expressions) f end i) (known_values (under (sheet_of s) silence) b.values (fit silence))
+
+pub returns-in-Ok : goal.returns-in-Ok
+returns-in-Ok c =
     let b = c.args.self.now in
     let s = c.args.sheet.now in
-    let es = vec_items s.tables.expressions in
-    c.evaluate.ensures.answer
-    ∙ ap (λ (f : ℕ → Option ℤ). known_at es f c.end_of.result c.args.expression) (known_values (under (sheet_of s) silence) b.values (c.requires silence))
-    ∙ ap (λ (e : End). known_at es (held b).known e c.args.expression) c.end_of.ensures
+    let end = (held b).ends c.args.serial in
+    worth_kept s b.values end c.args.expression c.in-Ok.z (c.in-Ok.ensures end) ∙ held_worth s b end c.args.expression c.requires
+
+pub returns-in-Err-Unknown : goal.returns-in-Err-Unknown
+returns-in-Err-Unknown c =
+    let b = c.args.self.now in
+    let s = c.args.sheet.now in
+    let end = (held b).ends c.args.serial in
+    let told = c.in-Err-Unknown.ensures end in
+    let same = held_worth s b end c.args.expression c.requires in
+    search rules
+
+pub returns-in-Err-More : goal.returns-in-Err-More
+returns-in-Err-More c =
+    let b = c.args.self.now in
+    let s = c.args.sheet.now in
+    c.evaluate.ensures.answer ∙ held_worth s b c.end_of.result c.args.expression c.requires
+    ∙ ap (λ (e : End). known_at (vec_items s.tables.expressions) (held b).known e c.args.expression) c.end_of.ensures

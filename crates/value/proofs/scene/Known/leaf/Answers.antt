@@ -1,36 +1,25 @@
--- An expression without operands has the number that it says, that of its variable, or that of the end.
+-- A number has the number that it says, and a variable its own.
 use Rattle.std.proofs.Common.{ℤ, Some, Result, sym, ap, ◌∙◌, subst, arith}
 use Rattle.std.proofs.lemmas.Int.{ints}
-use Rattle.sheet.specs.declared.parts.Expression.TheVariants.{Num, Last}
-use Rattle.value.specs.declared.scene.Open.{Open}
-use Rattle.value.specs.Scenes.{worth_in, Tells}
+use Rattle.sheet.specs.declared.parts.Expression.TheVariants.{Num}
+use Rattle.value.specs.declared.parts.Open.{Open}
+use Rattle.value.specs.Claims.{worth, Tells}
 use Rattle.value.proofs.Telling.{tells_ok_or}
 use Rattle.value.proofs.Working.{worth-entry, variable_worth, worth_kept}
-use Rattle.value.proofs.scene.Scene.leaf.Goals as goal
+use Rattle.value.proofs.scene.Known.leaf.Goals as goal
 
 pub returns-in-Num-clause-told : goal.returns-in-Num-clause-told
-returns-in-Num-clause-told c =
+returns-in-Num-clause-told c end =
     let s = c.args.self.now.sheet.now in
     let vs = c.args.self.now.values.now in
-    let end = c.args.self.now.end in
     worth_kept s vs end c.args.number c.from.result
     (ap (λ (y : ℤ). Some y) (omega (arith, ints, c.from.ensures)) ∙ sym (worth-entry s c.args.number c.index.result.now (Num c.in-Num.c) c.requires.there c.index.ensures c.in-Num.is vs end))
 
 pub returns-in-Val-clause-told : goal.returns-in-Val-clause-told
-returns-in-Val-clause-told c =
+returns-in-Val-clause-told c end =
     let s = c.args.self.now.sheet.now in
     let vs = c.args.self.now.values.now in
-    let end = c.args.self.now.end in
-    let known = worth_in c.args.self.now c.args.number in
+    let known = worth s vs end c.args.number in
     subst (λ (r : Result ℤ Open). Tells known r) (sym c.ok_or.ensures.value)
     (tells_ok_or c.fitting.result known (c.fitting.ensures
     ∙ variable_worth s vs end c.args.number c.index.result.now c.in-Val.x c.from-x.result c.index-in-Val.result.now c.value_at.result c.requires.there c.index.ensures c.in-Val.is c.from-x.ensures c.index-in-Val.ensures c.value_at.ensures))
-
-pub returns-in-Last-clause-told : goal.returns-in-Last-clause-told
-returns-in-Last-clause-told c =
-    let s = c.args.self.now.sheet.now in
-    let vs = c.args.self.now.values.now in
-    let end = c.args.self.now.end in
-    let known = worth_in c.args.self.now c.args.number in
-    subst (λ (r : Result ℤ Open). Tells known r) (sym c.ok_or-in-Last.ensures.value)
-    (tells_ok_or c.ended.result known (c.ended.ensures ∙ sym (worth-entry s c.args.number c.index.result.now Last c.requires.there c.index.ensures c.in-Last.is vs end)))

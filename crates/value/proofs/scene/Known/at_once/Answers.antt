@@ -1,40 +1,41 @@
 -- What is told of the operands is told of the operation.
 use Rattle.std.proofs.Common.{ℕ, ℤ, Some, Err, Option, sym, ap, ◌∙◌, subst, w64, to_z, of_z, rules}
 use Rattle.sheet.specs.declared.parts.Expression.TheVariants.{Pair, Not}
+use Rattle.value.specs.declared.parts.End.TheVariants.{Unknown}
 use Rattle.value.specs.Values.{apply, denied, once}
-use Rattle.value.specs.Scenes.{worth_in, Tells}
+use Rattle.value.specs.Claims.{worth, Tells}
 use Rattle.value.proofs.Telling.{tells_once, tells_first, tells_second}
 use Rattle.value.proofs.Working.{worth-entry, worth_within, worth_kept, pair_known}
-use Rattle.value.proofs.scene.Scene.at_once.Goals as goal
+use Rattle.value.proofs.scene.Known.at_once.Goals as goal
 
 pub returns-in_err-x-in-Pair : goal.returns-in_err-x-in-Pair
-returns-in_err-x-in-Pair c =
-    let g = worth_in c.args.self.now in
+returns-in_err-x-in-Pair c end =
+    let g = worth c.args.self.now.sheet.now c.args.self.now.values.now end in
     let p = c.in-Pair in
     let why = c.in_err-x-in-Pair.field-0.0 in
-    let operand = subst (λ (i : ℕ). Tells (g i) (Err why)) c.from.ensures c.in_err-x-in-Pair.ensures.told in
-    let entry = worth-entry c.args.self.now.sheet.now c.args.number c.index.result.now (Pair p.o p.a p.b) c.requires.there c.index.ensures p.is c.args.self.now.values.now c.args.self.now.end in
+    let operand = subst (λ (i : ℕ). Tells (g i) (Err why)) c.from.ensures (c.in_err-x-in-Pair.ensures.told end) in
+    let entry = worth-entry c.args.self.now.sheet.now c.args.number c.index.result.now (Pair p.o p.a p.b) c.requires.there c.index.ensures p.is c.args.self.now.values.now end in
     let told = subst (λ (o : Option ℤ). Tells o (Err why)) (sym entry) (tells_first (apply p.o) (g p.a) (g p.b) why operand) in
     search rules
 
 pub returns-in_err-y-in-Pair : goal.returns-in_err-y-in-Pair
-returns-in_err-y-in-Pair c =
-    let g = worth_in c.args.self.now in
+returns-in_err-y-in-Pair c end =
+    let g = worth c.args.self.now.sheet.now c.args.self.now.values.now end in
     let p = c.in-Pair in
     let why = c.in_err-y-in-Pair.field-0.0 in
-    let operand = subst (λ (i : ℕ). Tells (g i) (Err why)) c.from-in-Pair.ensures c.in_err-y-in-Pair.ensures.told in
-    let first = c.in_ok-x-in-Pair.ensures.told ∙ ap g c.from.ensures in
-    let entry = worth-entry c.args.self.now.sheet.now c.args.number c.index.result.now (Pair p.o p.a p.b) c.requires.there c.index.ensures p.is c.args.self.now.values.now c.args.self.now.end in
+    let operand = subst (λ (i : ℕ). Tells (g i) (Err why)) c.from-in-Pair.ensures (c.in_err-y-in-Pair.ensures.told end) in
+    let first = c.in_ok-x-in-Pair.ensures.told end ∙ ap g c.from.ensures in
+    let entry = worth-entry c.args.self.now.sheet.now c.args.number c.index.result.now (Pair p.o p.a p.b) c.requires.there c.index.ensures p.is c.args.self.now.values.now end in
     let told = subst (λ (o : Option ℤ). Tells o (Err why)) (sym entry) (tells_second (apply p.o) c.in_ok-x-in-Pair.x (g p.a) (g p.b) why first operand) in
     search rules
 
 pub returns-in_err-leaf-in-Not : goal.returns-in_err-leaf-in-Not
-returns-in_err-leaf-in-Not c =
-    let g = worth_in c.args.self.now in
+returns-in_err-leaf-in-Not c end =
+    let g = worth c.args.self.now.sheet.now c.args.self.now.values.now end in
     let a = c.in-Not.a in
     let why = c.in_err-leaf-in-Not.field-0.0 in
-    let operand = subst (λ (i : ℕ). Tells (g i) (Err why)) c.from-in-Not.ensures c.in_err-leaf-in-Not.ensures.told in
-    let entry = worth-entry c.args.self.now.sheet.now c.args.number c.index.result.now (Not a) c.requires.there c.index.ensures c.in-Not.is c.args.self.now.values.now c.args.self.now.end in
+    let operand = subst (λ (i : ℕ). Tells (g i) (Err why)) c.from-in-Not.ensures (c.in_err-leaf-in-Not.ensures.told end) in
+    let entry = worth-entry c.args.self.now.sheet.now c.args.number c.index.result.now (Not a) c.requires.there c.index.ensures c.in-Not.is c.args.self.now.values.now end in
     let told = subst (λ (o : Option ℤ). Tells o (Err why)) (sym entry) (tells_once denied (g a) why operand) in
     search rules
 
@@ -42,36 +43,34 @@ pub applied-requires : goal.applied-requires
 applied-requires c =
     let s = c.args.self.now.sheet.now in
     let vs = c.args.self.now.values.now in
-    let end = c.args.self.now.end in
+    let end = Unknown in
     let x = c.in_ok-x-in-Pair.x in
     let y = c.in_ok-y-in-Pair.y in
     let i = c.from.result in
     let j = c.from-in-Pair.result in (
-      worth_within s vs end i (Some (to_z w64 (of_z w64 x))) (worth_kept s vs end i x c.in_ok-x-in-Pair.ensures.told),
-      worth_within s vs end j (Some (to_z w64 (of_z w64 y))) (worth_kept s vs end j y c.in_ok-y-in-Pair.ensures.told),
+      worth_within s vs end i (Some (to_z w64 (of_z w64 x))) (worth_kept s vs end i x (c.in_ok-x-in-Pair.ensures.told end)),
+      worth_within s vs end j (Some (to_z w64 (of_z w64 y))) (worth_kept s vs end j y (c.in_ok-y-in-Pair.ensures.told end)),
     )
 
 pub returns-in_ok-y-in-Pair : goal.returns-in_ok-y-in-Pair
-returns-in_ok-y-in-Pair c =
+returns-in_ok-y-in-Pair c end =
     let s = c.args.self.now.sheet.now in
     let vs = c.args.self.now.values.now in
-    let end = c.args.self.now.end in
-    let g = worth_in c.args.self.now in
+    let g = worth c.args.self.now.sheet.now c.args.self.now.values.now end in
     let p = c.in-Pair in
     let x = c.in_ok-x-in-Pair.x in
     let y = c.in_ok-y-in-Pair.y in
-    let f = worth_kept s vs end c.from.result x c.in_ok-x-in-Pair.ensures.told ∙ ap g c.from.ensures in
-    let h = worth_kept s vs end c.from-in-Pair.result y c.in_ok-y-in-Pair.ensures.told ∙ ap g c.from-in-Pair.ensures in
+    let f = worth_kept s vs end c.from.result x (c.in_ok-x-in-Pair.ensures.told end) ∙ ap g c.from.ensures in
+    let h = worth_kept s vs end c.from-in-Pair.result y (c.in_ok-y-in-Pair.ensures.told end) ∙ ap g c.from-in-Pair.ensures in
     worth_kept s vs end c.args.number c.applied.result
     (pair_known p.o (to_z w64 (of_z w64 x)) (to_z w64 (of_z w64 y)) c.applied.result (g p.a) (g p.b) c.applied.ensures f h
     ∙ sym (worth-entry s c.args.number c.index.result.now (Pair p.o p.a p.b) c.requires.there c.index.ensures p.is vs end))
 
 pub returns-in_ok-leaf-in-Not : goal.returns-in_ok-leaf-in-Not
-returns-in_ok-leaf-in-Not c =
+returns-in_ok-leaf-in-Not c end =
     let s = c.args.self.now.sheet.now in
     let vs = c.args.self.now.values.now in
-    let end = c.args.self.now.end in
-    let f = worth_kept s vs end c.from-in-Not.result c.in_ok-leaf-in-Not.field-0 c.in_ok-leaf-in-Not.ensures.told ∙ ap (worth_in c.args.self.now) c.from-in-Not.ensures in
+    let f = worth_kept s vs end c.from-in-Not.result c.in_ok-leaf-in-Not.field-0 (c.in_ok-leaf-in-Not.ensures.told end) ∙ ap (worth c.args.self.now.sheet.now c.args.self.now.values.now end) c.from-in-Not.ensures in
     worth_kept s vs end c.args.number c.negated.result
     (ap (λ (y : ℤ). Some y) c.negated.ensures ∙ ap (once denied) f
     ∙ sym (worth-entry s c.args.number c.index.result.now (Not c.in-Not.a) c.requires.there c.index.ensures c.in-Not.is vs end))
