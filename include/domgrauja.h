@@ -46,7 +46,7 @@ extern "C" {
 #define DOMGRAUJA_UNDETERMINED 32       /* the next state leaves something open; see `variable` */
 #define DOMGRAUJA_CROWDED 33            /* the next state has too many duties or spans */
 #define DOMGRAUJA_FULL 34               /* the record has no room for the next state */
-#define DOMGRAUJA_NO_MEMORY 40          /* there is no memory for what the call needs: nothing was done */
+#define DOMGRAUJA_NO_MEMORY 50          /* there is no memory for what the call needs: nothing was done */
 
 /* In place of a variable: every variable has a number, but the end of a span is open. */
 #define DOMGRAUJA_SPAN_END 99

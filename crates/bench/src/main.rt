@@ -40,7 +40,7 @@ fn main(rt: HostRuntime) -> io::Result<ExitCode> {
                 return unread(&rt, path.as_str());
             };
             let Some(readings) = read_readings(rt.alloc(), &lines)? else {
-                return unread(&rt, path.as_str());
+                return unfit(&rt, path.as_str());
             };
             measure(&rt, &text, times, &ListFeed::new(&readings))?;
         }
@@ -55,7 +55,13 @@ fn usage(rt: &HostRuntime) -> io::Result<ExitCode> {
     Ok(ExitCode::from(2))
 }
 
-// Says that a file is not there, or has not what it should have.
+// Says that a file has a line that is no reading.
+fn unfit(rt: &HostRuntime, path: &str) -> io::Result<ExitCode> {
+    eprintln!(rt; "bench: a line of {path} is no reading")?;
+    Ok(ExitCode::from(2))
+}
+
+// Says that a file cannot be read.
 fn unread(rt: &HostRuntime, path: &str) -> io::Result<ExitCode> {
     eprintln!(rt; "bench: cannot read {path}")?;
     Ok(ExitCode::from(2))

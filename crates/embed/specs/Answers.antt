@@ -22,7 +22,7 @@ nothing = record { number = 0; line = 0; word = 0; statement = 0; variable = 0; 
 
 -- there is no memory for what the call needs
 abbrev pub lacking : Answer
-lacking = record nothing { number = 40 }
+lacking = record nothing { number = 50 }
 
 -- a stop at state k, where as many states are recorded: its number, and the statement or the variable that it means
 abbrev pub stopped_at : ℕ → Stop → Answer

@@ -11,7 +11,7 @@ use meaning::Stop;
 #[repr(C)]
 #[derive(Clone, Copy, Debug, PartialEq, Eq)]
 pub struct Answer {
-    // the published number of a refusal, a denial or a stop; or 40, where there is no memory
+    // the published number of a refusal, a denial or a stop; or 50, where there is no memory
     pub number: u32,
     // the line and the word that a refusal means
     pub line: u32,
@@ -53,7 +53,7 @@ impl Answer {
         ensures { result ≡ lacking }
     {
         Answer {
-            number: 40,
+            number: 50,
             ..Answer::nothing()
         }
     }

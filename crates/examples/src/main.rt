@@ -7,13 +7,14 @@ use crate::playing::try_out;
 use engine::Engine;
 use std::io;
 use std::io::Read;
+use std::process::ExitCode;
 use text::Reader;
 use worked::next_example;
 
 // The numbers of 1,000 states of 16 variables, which is as many states as one advance is asked for.
 const NUMBERS: usize = 16_000;
 
-fn main(rt: HostRuntime) -> io::Result<()> {
+fn main(rt: HostRuntime) -> io::Result<ExitCode> {
     let mut engine = Engine::new(rt.alloc())?;
     let mut numbers = vec![in rt.alloc(); 0; NUMBERS]?;
     let mut table = Vec::new(rt.alloc());
@@ -31,5 +32,10 @@ fn main(rt: HostRuntime) -> io::Result<()> {
             good += 1;
         }
     }
-    println!(rt; "{good} of {all} examples ok")
+    println!(rt; "{good} of {all} examples ok")?;
+    Ok(if good == all {
+        ExitCode::SUCCESS
+    } else {
+        ExitCode::FAILURE
+    })
 }

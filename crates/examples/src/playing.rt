@@ -1,4 +1,5 @@
 // Runs one example, and compares what comes of it with what it promises.
+use answers::Answer;
 use closing::{Closing, MOST_CLOSING, closing_lines};
 use engine::{Ending, Engine, NotAdvanced, Progress, Report};
 use feed::{Feed, ListFeed};
@@ -60,14 +61,24 @@ fn play(
         return Ok(true);
     }
     println!(rt; ": expected")?;
+    show_both(rt, example, &record, closing, engine.report())?;
+    Ok(false)
+}
+
+// Prints the lines that were expected of an example, and those that came of it, with the report at the end.
+fn show_both(
+    rt: &HostRuntime,
+    example: &Example<'_>,
+    record: &[u8],
+    closing: &[u8],
+    report: Report,
+) -> io::Result<()> {
     rt.stdout().write_all(example.record)?;
     rt.stdout().write_all(example.closing)?;
     println!(rt; "but it came to")?;
-    rt.stdout().write_all(&record)?;
+    rt.stdout().write_all(record)?;
     rt.stdout().write_all(closing)?;
-    let report = engine.report();
-    println!(rt; "{report:?}")?;
-    Ok(false)
+    rt.println(Answer::Report(report))
 }
 
 // Loads a sheet, begins a run of it and advances once.

@@ -1,10 +1,16 @@
 -- How an example stands in a table. The byte 10 ends a line. Assumes nothing.
-use Rattle.std.specs.Prelude.{◌≡◌, ℕ, ◌+◌, ◌-◌, ◌≤◌, List, length, take, drop}
-use Rattle.text.specs.Cut.{before}
+use Rattle.std.specs.Prelude.{◌≡◌, ℕ, ◌+◌, ◌-◌, ◌≤◌, ◌↔◌, ◌++◌, List, length, take, drop, Option, Some, codes}
+use Rattle.text.specs.Cut.{before, parted}
+use Rattle.feed.specs.declared.list.Reading.{Reading as Readings}
+use Rattle.script.specs.Spelling.{reading_words, SmallReading}
 use Rattle.worked.specs.declared.parts.Part.{Part}
-use Rattle.worked.specs.declared.parts.Part.TheVariants.{Name, Formula, Reading, Record, Closing, Other}
+use Rattle.worked.specs.declared.parts.Part.TheVariants.{Name, Formula, Reading, Record, Closing, End, Other}
 use Rattle.worked.specs.declared.table.Example.{Example}
 use Rattle.worked.specs.Parts.{part_in}
+
+-- o is the reading of the line l, and there is none where the line spells none: its words stand behind the 8 bytes of `reading=`
+abbrev pub ReadsLine : List ℕ → Option Readings → Type 0
+ReadsLine l o = (r : Readings) → (o ≡ Some r) ↔ ((l ≡ codes "reading=" ++ drop 8 l) × (parted 32 (drop 8 l) ≡ reading_words r) × SmallReading r)
 
 -- the line at a place of a text, without its end
 abbrev pub line_at : List ℕ → ℕ → List ℕ
@@ -44,7 +50,9 @@ pub record StandsAt (text : List ℕ) (e : Example) (p q : ℕ) : Type 0 where
   pub readings : e.readings.now ≡ between text at_readings at_record
   pub record_lines : AllSay text Record at_record at_closing
   pub states : e.«record».now ≡ between text at_record at_closing
-  -- the closing lines begin with a verdict or a refusal, and end the example
+  -- the closing lines begin with a verdict or a refusal, and stand up to its end
   pub closes : part_in (line_at text at_closing) ≡ Closing
   pub closing_lines : AllSay text Other (behind text at_closing) q
   pub closing : e.closing.now ≡ between text at_closing q
+  -- behind it there is an empty line, or nothing
+  pub ends : part_in (line_at text q) ≡ End

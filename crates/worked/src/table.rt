@@ -1,10 +1,8 @@
 // Cuts a table into its examples.
-ghost use Rattle.std.specs.Prelude.{◌≡◌, ℕ, ◌+◌, ◌≤◌, ◌==◌, IfSome, IfOk, IsTrue, MatchOption, count_by, drop, length, take};
-ghost use Rattle.text.specs.Cut.{parted};
-ghost use Rattle.script.specs.Spelling.{reading_words};
+ghost use Rattle.std.specs.Prelude.{◌≡◌, ℕ, ◌+◌, ◌≤◌, ◌==◌, IfSome, IfOk, IsTrue, MatchOption, count_by, length, take};
 ghost use Rattle.worked.specs.declared.parts.Part.TheVariants.{Closing, End, Other};
 ghost use Rattle.worked.specs.Parts.{part_in};
-ghost use Rattle.worked.specs.Blocks.{AllSay, StandsAt, behind, between, line_at};
+ghost use Rattle.worked.specs.Blocks.{AllSay, ReadsLine, StandsAt, behind, between, line_at};
 
 use crate::parts::{Part, part_of};
 use feed::Reading;
@@ -33,9 +31,9 @@ pub fn line_number(reader: &Reader<'_>) -> usize
     passed.iter().filter(|b| **b == b'\n').count() + 1
 }
 
-// The reading of a line that has one.
+// The reading of a line that has one, and else none.
 pub fn reading_of(line: &[u8]) -> Option<Reading>
-    ensures { IfSome result (λ r. parted 32 (drop 8 line.now) ≡ reading_words r) }
+    ensures { ReadsLine line.now result }
 {
     read_reading(line.strip_prefix(b"reading=")?)
 }
@@ -96,10 +94,21 @@ fn closing_lines<'a>(reader: &mut Reader<'a>) -> Option<&'a [u8]>
     Some(lines_from(reader, start))
 }
 
+// Goes on behind the empty line that ends an example, or stays where the table ends. None where neither is at the place.
+fn end_block(reader: &mut Reader<'_>) -> Option<()>
+    ensures text { reader.new.text ≡ reader.old.text }
+    ensures ends { IfSome result (λ _. (part_in (line_at reader.old.text.now reader.old.place) ≡ End) × AllSay reader.old.text.now End reader.old.place reader.new.place) }
+{
+    if reader.place < reader.text.len() {
+        line_with(reader, Part::End)?;
+    }
+    Some(())
+}
+
 // The example that starts at the place, up to the empty line or the end of the table that ends it. None where the line at the place is not in order.
 fn read_block<'a>(reader: &mut Reader<'a>) -> Option<Example<'a>>
     ensures text { reader.new.text ≡ reader.old.text }
-    ensures stands { IfSome result (λ e. (q : ℕ) × StandsAt reader.old.text.now e reader.old.place q) }
+    ensures stands { IfSome result (λ e. (q : ℕ) × StandsAt reader.old.text.now e reader.old.place q × AllSay reader.old.text.now End q reader.new.place) }
 {
     let name = line_with(reader, Part::Name)?.strip_prefix(b"example=")?;
     lines_with(reader, Part::Formula);
@@ -107,9 +116,7 @@ fn read_block<'a>(reader: &mut Reader<'a>) -> Option<Example<'a>>
     let readings = lines_with(reader, Part::Reading);
     let record = lines_with(reader, Part::Record);
     let closing = closing_lines(reader)?;
-    if reader.place < reader.text.len() {
-        line_with(reader, Part::End)?;
-    }
+    end_block(reader)?;
     Some(Example {
         name,
         sheet,
@@ -135,7 +142,7 @@ fn pass_over(reader: &mut Reader<'_>)
 pub fn next_example<'a>(reader: &mut Reader<'a>) -> Option<Result<Example<'a>, usize>>
     ensures text { reader.new.text ≡ reader.old.text }
     ensures over { result ≡ None → AllSay reader.old.text.now End reader.old.place reader.new.place × (length reader.old.text.now ≤ reader.new.place) }
-    ensures stands { IfSome result (λ r. IfOk r (λ e. (p q : ℕ) × AllSay reader.old.text.now End reader.old.place p × StandsAt reader.old.text.now e p q)) }
+    ensures stands { IfSome result (λ r. IfOk r (λ e. (p q : ℕ) × AllSay reader.old.text.now End reader.old.place p × StandsAt reader.old.text.now e p q × AllSay reader.old.text.now End q reader.new.place)) }
 {
     lines_with(reader, Part::End);
     if reader.place >= reader.text.len() {
