@@ -3,10 +3,10 @@
 
 mod desk;
 mod files;
-mod lines;
+mod input;
 
 use crate::desk::{Desk, Memory};
-use crate::lines::Lines;
+use crate::input::Lines;
 use record::{Recorder, TableRecorder};
 use script::read_call;
 use std::io;
