@@ -6,6 +6,7 @@ pub mod Work
 pub mod Effects
 pub mod Rules
 pub mod Passes
+pub mod Visiting
 pub mod Runs
 pub mod Laws
 pub mod Order

@@ -12,7 +12,7 @@ use Rattle.meaning.specs.declared.parts.Stop.{Stop}
 use Rattle.meaning.specs.declared.parts.Stop.TheVariants.{Undetermined}
 use Rattle.meaning.specs.Intervals.{Setting, width}
 use Rattle.meaning.specs.Work.{Work, Outcome, stops, goes, plain}
-use Rattle.meaning.specs.Passes.{Settles}
+use Rattle.meaning.specs.Visiting.{Visiting, in_passes, SettlesBy}
 
 -- what is known at the start of a state: no variable's number, and no span's end
 abbrev pub begun : List Span → List Duty → ℕ → Work
@@ -99,28 +99,44 @@ abbrev pub step_of : ℕ → Outcome → Step
 step_of n (stops s) = stopped s
 step_of n (goes w c) = judged_by (left_open n w) n w
 
--- state k, started with the work w, comes to this
-pub record Steps (S : Setting) (k : ℕ) (w : Work) (s : Step) : Type 0 where
+-- state k, started with the work w and settled so, comes to this
+pub record StepsBy (v : Visiting) (S : Setting) (k : ℕ) (w : Work) (s : Step) : Type 0 where
   pub outcome : Outcome
-  pub settles : Settles S k w outcome
+  pub settles : SettlesBy v S k w outcome
   pub comes : step_of (width S) outcome ≡ s
 
--- a run that goes on: its record so far, and the work that its next state starts with
-pub data Open (S : Setting) : List (List ℤ) → Work → Type 0 where
+-- a run that goes on, its states settled so: its record so far, and the work that its next state starts with
+pub data OpenBy (v : Visiting) (S : Setting) : List (List ℤ) → Work → Type 0 where
   -- nothing is recorded
-  start : Open S [] (first_work S.sheet.run)
+  start : OpenBy v S [] (first_work S.sheet.run)
   -- one state more is
-  onward : {r : List (List ℤ)} {w u : Work} {x : List ℤ} → Open S r w → Steps S (length r) w (recorded x u) → Open S (r ++ x ∷ []) u
+  onward : {r : List (List ℤ)} {w u : Work} {x : List ℤ} → OpenBy v S r w → StepsBy v S (length r) w (recorded x u) → OpenBy v S (r ++ x ∷ []) u
 
 -- a run that has finished, with its record
-pub data Finished (S : Setting) : List (List ℤ) → Type 0 where
-  finish : {r : List (List ℤ)} {w : Work} {x : List ℤ} → Open S r w → Steps S (length r) w (finished x) → Finished S (r ++ x ∷ [])
+pub data FinishedBy (v : Visiting) (S : Setting) : List (List ℤ) → Type 0 where
+  finish : {r : List (List ℤ)} {w : Work} {x : List ℤ} → OpenBy v S r w → StepsBy v S (length r) w (finished x) → FinishedBy v S (r ++ x ∷ [])
 
 -- a run that has met a stop, with its record; the stop is at the state after the record
-pub data Stopped (S : Setting) : List (List ℤ) → Stop → Type 0 where
-  stop : {r : List (List ℤ)} {w : Work} {s : Stop} → Open S r w → Steps S (length r) w (stopped s) → Stopped S r s
+pub data StoppedBy (v : Visiting) (S : Setting) : List (List ℤ) → Stop → Type 0 where
+  stop : {r : List (List ℤ)} {w : Work} {s : Stop} → OpenBy v S r w → StepsBy v S (length r) w (stopped s) → StoppedBy v S r s
 
 -- a list of states is the record of a run, at some moment of it
-pub data Record (S : Setting) (r : List (List ℤ)) : Type 0 where
-  open_record : (w : Work) → Open S r w → Record S r
-  finished_record : Finished S r → Record S r
+pub data RecordBy (v : Visiting) (S : Setting) (r : List (List ℤ)) : Type 0 where
+  open_record : (w : Work) → OpenBy v S r w → RecordBy v S r
+  finished_record : FinishedBy v S r → RecordBy v S r
+
+-- the same of the runs of an engine, which settles its states in passes
+abbrev pub Steps : Setting → ℕ → Work → Step → Type 0
+Steps S k w s = StepsBy in_passes S k w s
+
+abbrev pub Open : Setting → List (List ℤ) → Work → Type 0
+Open S r w = OpenBy in_passes S r w
+
+abbrev pub Finished : Setting → List (List ℤ) → Type 0
+Finished S r = FinishedBy in_passes S r
+
+abbrev pub Stopped : Setting → List (List ℤ) → Stop → Type 0
+Stopped S r s = StoppedBy in_passes S r s
+
+abbrev pub Record : Setting → List (List ℤ) → Type 0
+Record S r = RecordBy in_passes S r
