@@ -47,7 +47,7 @@ put_roomy p Last Unknown s w h = h
 put_roomy p Last On s w h = tt
 put_roomy p Last Last s w h = h
 
-roomy_kept : (S : Setting) → Kept S Roomy
+pub roomy_kept : (S : Setting) → Kept S Roomy
 roomy_kept S = record {
   gives = λ p x v w h. give_roomy S p (w.known x) x v w h;
   puts = λ p e s w h. put_roomy p (w.ends s) e s w h;
@@ -75,7 +75,7 @@ going_few f (t ∷ l) = by (f t.serial) (going_few f l)
     by On h = omega arith
     by Last h = omega arith
 
-next_roomy : (w : Work) → Roomy w → Roomy (next_work w)
+pub next_roomy : (w : Work) → Roomy w → Roomy (next_work w)
 next_roomy w h = record { duties = h.later; later = omega arith; spans = omega (arith, going_few w.ends w.spans, h.spans) }
 
 open_roomy : {S : Setting} {r : List (List ℤ)} {w : Work} → Open S r w → Roomy w

@@ -14,10 +14,12 @@ use Rattle.meaning.specs.Work.{Work, Outcome, stops, goes, also, and_then, plain
 use Rattle.meaning.specs.Effects.{give, put, add, carry, open_span}
 use Rattle.meaning.specs.Rules.{known_for, once_known, when_on, chop_opening, for_opening, while_opening, halt_rule, len_rule, gets_rule, for_rule, while_rule, rule, visit, take_last, hand_on, visit_opened, visit_span}
 use Rattle.meaning.specs.Passes.{visit_or, visit_duties, visit_spans, pass_fuel, pass, Settles, rests, breaks, again}
+use Rattle.meaning.specs.Visiting.{OneVisit, to_duty, to_span, Visits, no_visit, one_more, SettlesAnyhow, comes_to_rest, meets_stop}
+use Rattle.meaning.specs.AnyOrder.{Broken}
 
--- the fact holds of the work of an outcome, unless it is a stop
+-- the fact holds of the work of an outcome, unless it is a stop, which is a contradiction or crowding then
 abbrev pub OfWork : (Work → Type 0) → Outcome → Type 0
-OfWork P (stops s) = Unit {0}
+OfWork P (stops s) = Broken s
 OfWork P (goes u c) = P u
 
 -- a fact that what a visit does keeps
@@ -30,11 +32,11 @@ pub record Kept (S : Setting) (P : Work → Type 0) : Type 0 where
 
 module _ (S : Setting) (P : Work → Type 0) (K : Kept S P) where
   kept_also : (c : Bool) (o : Outcome) → OfWork P o → OfWork P (also c o)
-  kept_also c (stops s) h = tt
+  kept_also c (stops s) h = h
   kept_also c (goes u b) h = h
 
   pub kept_then : (o : Outcome) (f : Work → Outcome) → OfWork P o → ((u : Work) → P u → OfWork P (f u)) → OfWork P (and_then o f)
-  kept_then (stops s) f h g = tt
+  kept_then (stops s) f h g = h
   kept_then (goes u c) f h g = kept_also c (f u) (g u h)
 
   kept_once : (q : Option ℤ) (f : ℤ → Work → Outcome) (w : Work) → P w → ((v : ℤ) → OfWork P (f v w)) → OfWork P (once_known q f w)
@@ -124,9 +126,22 @@ module _ (S : Setting) (P : Work → Type 0) (K : Kept S P) where
   pub kept_pass : (k : ℕ) (w : Work) → P w → OfWork P (pass S k w)
   kept_pass k w h = kept_then (visit_duties S k pass_fuel 0 w) (λ u. visit_spans u.spans u) (kept_duties k pass_fuel 0 w h) (λ u. kept_spans u.spans u)
 
+  kept_one_visit : {k : ℕ} {w : Work} {o : Outcome} → OneVisit S k w o → P w → OfWork P o
+  kept_one_visit {k} {w} (to_duty d q e) h = subst (λ (z : Outcome). OfWork P z) e (kept_visit k d w h)
+  kept_one_visit {k} {w} (to_span t q e) h = subst (λ (z : Outcome). OfWork P z) e (kept_opened t.opening t.serial w h)
+
+  pub kept_visits : {k : ℕ} {w u : Work} → Visits S k w u → P w → P u
+  kept_visits no_visit h = h
+  kept_visits (one_more s v) h = kept_one_visit v (kept_visits s h)
+
+  -- and so do visits in any order
+  pub kept_anyhow : {k : ℕ} {w : Work} {o : Outcome} → SettlesAnyhow S k w o → P w → OfWork P o
+  kept_anyhow (comes_to_rest s e) h = kept_visits s h
+  kept_anyhow (meets_stop s v) h = kept_one_visit v (kept_visits s h)
+
   kept_settled : {k : ℕ} {w : Work} {o : Outcome} → Settles S k w o → P w → OfWork P o
   kept_settled {k} {w} (rests e) h = subst (λ (z : Outcome). OfWork P z) e (kept_pass k w h)
-  kept_settled (breaks e) h = tt
+  kept_settled {k} {w} (breaks e) h = subst (λ (z : Outcome). OfWork P z) e (kept_pass k w h)
   kept_settled {k} {w} (again {u = u} e s) h = kept_settled s (subst (λ (z : Outcome). OfWork P z) e (kept_pass k w h))
 
   -- and so does settling

@@ -129,7 +129,7 @@ pub end_stays : {w u : Work} (s : ℕ) (c : End) → Later w u → s < w.next �
 end_stays {w} {u} s c h l e i = h.ends s l (subst IsEnded (sym e) i) ∙ e
 
 -- more is known of a number where more is known of the variables and of the end
-abbrev MoreKnown : Option ℤ → Option ℤ → Type 0
+abbrev pub MoreKnown : Option ℤ → Option ℤ → Type 0
 MoreKnown o q = (v : ℤ) → o ≡ Some v → q ≡ Some v
 
 more_one : (f : ℤ → ℤ) (o q : Option ℤ) → MoreKnown o q → MoreKnown (once f o) (once f q)
@@ -155,7 +155,7 @@ module _ (f g : ℕ → Option ℤ) (c e : End) (hv : (x : ℕ) → MoreKnown (f
   more_step (Not a) os qs h = more_one denied (get_or os a (Some (pos 0))) (get_or qs a (Some (pos 0))) (alike_at MoreKnown (Some (pos 0)) (Some (pos 0)) (λ v p. p) h a)
   more_step LastOf os qs h = more_last c e he
 
-  more_known : (es : List Expression) (i : ℕ) → MoreKnown (known_at es f c i) (known_at es g e i)
+  pub more_known : (es : List Expression) (i : ℕ) → MoreKnown (known_at es f c i) (known_at es g e i)
   more_known es i = alike_at MoreKnown (Some (pos 0)) (Some (pos 0)) (λ v p. p) (tables_alike MoreKnown (known f c) (known g e) es [] [] (λ k h us vs a. more_step (get_or es k LastOf) us vs a) alike-none) i
 
 -- a number that is known for a duty stays

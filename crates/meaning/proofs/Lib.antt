@@ -3,6 +3,10 @@
 pub mod Lists
 pub mod Tests
 pub mod Owed
+pub mod PartOf
+pub mod Grants
+pub mod PlacedEffects
+pub mod PlacedVisits
 pub mod Known
 pub mod Explained
 pub mod Opened
@@ -23,6 +27,10 @@ pub mod Records
 pub mod Theorems
 pub mod Alike
 pub mod Kept
+pub mod Distinct
+pub mod Neat
+pub mod RestGrants
+pub mod OneToOne
 pub mod Fuel
 pub mod Later
 pub mod Spent

@@ -101,12 +101,12 @@ rule_rests S k d w (Request x) o = once_rests w (S.readings x k) (give S d.state
 -- what it says of a span
 abbrev pub SpanRest : Work → ℕ → Option Opening → Type 0
 SpanRest w s None = Unit {0}
-SpanRest w s (Some g) = (w.ends s ≡ On → w.ends g.follower.span ≡ On) × (w.ends s ≡ Last → g.follower ∈ w.duties)
+SpanRest w s (Some g) = (w.ends s ≡ On → w.ends g.follower.span ≡ On) × (w.ends s ≡ Last → g.follower ∈ w.duties) × (w.ends g.follower.span ≡ Last → w.ends s ≡ Last)
 
-take_rests : (c : End) (p s : ℕ) (w : Work) → Rests w (take_last c p s w) (Unit {0})
-take_rests Unknown p s w = quiet w
-take_rests On p s w = quiet w
-take_rests Last p s w = says w _ _ _ (λ _. tt) (put_rests p Last s w)
+take_rests : (c : End) (p s : ℕ) (w : Work) → Rests w (take_last c p s w) (c ≡ Last → w.ends s ≡ Last)
+take_rests Unknown p s w = says w _ _ _ (λ _ e. absurd (unknown_last e)) (quiet w)
+take_rests On p s w = says w _ _ _ (λ _ e. absurd (on_last e)) (quiet w)
+take_rests Last p s w = says w _ _ _ (λ h _. h) (put_rests p Last s w)
 
 hand_rests : (u : Work) (c : End) (g : Opening) → Rests u (hand_on c g u) ((c ≡ On → u.ends g.follower.span ≡ On) × (c ≡ Last → g.follower ∈ u.duties))
 hand_rests u Unknown g = says u _ _ _ (λ _. ((λ e. absurd (unknown_on e)), (λ e. absurd (unknown_last e)))) (quiet u)
@@ -116,8 +116,9 @@ hand_rests u Last g = says u _ _ _ (λ h. ((λ e. absurd (on_last (sym e))), (λ
 opened_rests : (w : Work) (s : ℕ) (q : Option Opening) → Rests w (visit_opened q s w) (SpanRest w s q)
 opened_rests w s None = quiet w
 opened_rests w s (Some g) =
-    says w _ _ _ (λ h. h.1)
-    (then_rests w _ (λ u. hand_on (u.ends s) g u) (Unit {0}) (λ u. SpanRest u s (Some g)) (take_rests (w.ends g.follower.span) g.by s w) (λ u. hand_rests u (u.ends s) g))
+    says w _ _ _ (λ h. (h.1.0, h.1.1, h.0))
+    (then_rests w _ (λ u. hand_on (u.ends s) g u) (w.ends g.follower.span ≡ Last → w.ends s ≡ Last) (λ u. (u.ends s ≡ On → u.ends g.follower.span ≡ On) × (u.ends s ≡ Last → g.follower ∈ u.duties))
+    (take_rests (w.ends g.follower.span) g.by s w) (λ u. hand_rests u (u.ends s) g))
 
 -- a pass that changes nothing
 pub record Rest (S : Setting) (k : ℕ) (w : Work) : Type 0 where

@@ -121,20 +121,20 @@ give_does : (S : Setting) (p x : ℕ) (v : ℤ) (w : Work) → OfWork (λ u. u.k
 give_does S p x v w = give_by_does S p (w.known x) x v w refl
 
 pub of_more : (P Q : Work → Type 0) (o : Outcome) → ((u : Work) → P u → Q u) → OfWork P o → OfWork Q o
-of_more P Q (stops s) f h = tt
+of_more P Q (stops s) f h = h
 of_more P Q (goes u c) f h = f u h
 
 pub of_both : (P Q : Work → Type 0) (o : Outcome) → OfWork P o → OfWork Q o → OfWork (λ u. P u × Q u) o
-of_both P Q (stops s) h k = tt
+of_both P Q (stops s) h k = h
 of_both P Q (goes u c) h k = (h, k)
 
 of_also : (P : Work → Type 0) (c : Bool) (o : Outcome) → OfWork P o → OfWork P (also c o)
-of_also P c (stops s) h = tt
+of_also P c (stops s) h = h
 of_also P c (goes u b) h = h
 
 -- one thing, and then another: both are so, if the first stays so
 pub of_then : (P Q R : Work → Type 0) (o : Outcome) (f : Work → Outcome) → OfWork P o → ((u : Work) → P u → OfWork Q (f u)) → ((u v : Work) → P u → Later u v → Q v → R v) → ((u : Work) → OfWork (Later u) (f u)) → OfWork R (and_then o f)
-of_then P Q R (stops s) f h g r k = tt
+of_then P Q R (stops s) f h g r k = h
 of_then P Q R (goes u c) f h g r k = of_also R c (f u) (of_more (λ v. Later u v × Q v) R (f u) (λ v q. r u v h q.0 q.1) (of_both (Later u) Q (f u) (k u) (g u h)))
 
 -- an end that is known, by its test

@@ -59,7 +59,7 @@ is_ended_says Unknown e = absurd (false≢true e)
 is_ended_says On e = tt
 is_ended_says Last e = tt
 
-all_ended_says : (f : ℕ → End) (l : List Span) → all_ended f l ≡ true → (t : Span) → t ∈ l → IsEnded (f t.serial)
+pub all_ended_says : (f : ℕ → End) (l : List Span) → all_ended f l ≡ true → (t : Span) → t ∈ l → IsEnded (f t.serial)
 all_ended_says f [] e t q = elim q [ ]
 all_ended_says f (x ∷ l) e t (here p) = subst (λ z. IsEnded (f z.serial)) (sym p) (is_ended_says (f x.serial) (and_parts (is_ended (f x.serial)) (all_ended f l) e).0)
 all_ended_says f (x ∷ l) e t (there q) = all_ended_says f l (and_parts (is_ended (f x.serial)) (all_ended f l) e).1 t q

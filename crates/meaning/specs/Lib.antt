@@ -9,5 +9,6 @@ pub mod Passes
 pub mod Visiting
 pub mod Runs
 pub mod Laws
+pub mod AnyOrder
 pub mod Order
 pub mod Waiting

@@ -57,12 +57,12 @@ visit_later S k d w u c h = subst (λ (z : Outcome). OfWork (Later w) z) (sym h)
 
 -- a fact of an outcome's work, where something has changed before
 of_also : (P : Work → Type 0) (c : Bool) (o : Outcome) → OfWork P o → OfWork P (also c o)
-of_also P c (stops s) h = tt
+of_also P c (stops s) h = h
 of_also P c (goes u b) h = h
 
 -- and of one thing after another
 of_next : (P : Work → Type 0) (o : Outcome) (f : Work → Outcome) → OfWork P o → ((u : Work) → P u → OfWork P (f u)) → OfWork P (and_then o f)
-of_next P (stops s) f h g = tt
+of_next P (stops s) f h g = h
 of_next P (goes u c) f h g = of_also P c (f u) (g u h)
 
 -- a visit to a span keeps what putting an end and adding a duty keep

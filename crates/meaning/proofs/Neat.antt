@@ -1,0 +1,93 @@
+-- Every work of a run is neat: what a visit does keeps it so, and so does the step to the next state.
+use Rattle.std.proofs.Common.{◌≡◌, ℕ, suc, ◌<◌, Bool, true, false, ◌&&◌, ltb, List, [], ◌∷◌, ◌++◌, length, ℤ, Some, None, Option, sym, refl, ◌∙◌, subst, arith}
+use Rattle.std.proofs.lemmas.Bool.{both_ways, cond_both}
+use Rattle.value.specs.declared.parts.End.{End}
+use Rattle.value.specs.declared.parts.End.TheVariants.{Unknown, On, Last}
+use Rattle.value.specs.Values.{same}
+use Rattle.meaning.specs.declared.parts.Duty.{Duty}
+use Rattle.meaning.specs.declared.parts.Opening.{Opening}
+use Rattle.meaning.specs.declared.parts.Span.{Span}
+use Rattle.meaning.specs.declared.parts.Stop.TheVariants.{Contradiction}
+use Rattle.meaning.specs.Intervals.{Setting, fits}
+use Rattle.meaning.specs.Work.{Work, stops, unchanged, changed, has_duty, has_opened}
+use Rattle.meaning.specs.Effects.{most_duties, most_spans, with_value, with_end, with_duty, with_later, with_span, if_room, give_by, put_by}
+use Rattle.meaning.specs.Order.{◌∈◌}
+use Rattle.meaning.proofs.Lists.{all_snoc}
+use Rattle.meaning.proofs.Tests.{stands_has}
+use Rattle.meaning.proofs.Kept.{OfWork, Kept}
+use Rattle.meaning.proofs.PartOf.{Distinct, Neat}
+use Rattle.meaning.proofs.Distinct.{distinct_snoc, not_has}
+
+-- a fact of each two of a list with one more
+pub two_snoc : {A : Type 0} (P : A → A → Type 0) (x : A) (l : List A) → ((a b : A) → a ∈ l → b ∈ l → P a b) → ((a : A) → a ∈ l → P a x) → ((a : A) → a ∈ l → P x a) → P x x
+    → (a b : A) → a ∈ (l ++ (x ∷ [])) → b ∈ (l ++ (x ∷ [])) → P a b
+two_snoc P x l h r s p a b q t =
+    all_snoc (λ z. (y : _) → y ∈ (l ++ (x ∷ [])) → P z y) x l
+    (λ z m. all_snoc (P z) x l (λ y n. h z y m n) (r z m)) (all_snoc (P x) x l s p) a q b t
+
+pub neat_new : (g : Opening) (w : Work) → has_opened g w.spans ≡ false → Neat w → Neat (with_span g w)
+neat_new g w e N =
+    let new : Span = record { serial = w.next; opening = Some g; fresh = true } in
+    record {
+      young = all_snoc (λ r. r.serial < suc w.next) new w.spans (λ r q. omega (arith, N.young r q)) (omega arith);
+      one_serial = two_snoc (λ t r. t.serial ≡ r.serial → t ≡ r) new w.spans N.one_serial (λ t q p. absurd (omega (arith, N.young t q, p))) (λ t q p. absurd (omega (arith, N.young t q, p))) (λ p. refl);
+      one_opening = λ h.
+          two_snoc (λ t r. t.fresh ≡ true → r.fresh ≡ true → t.opening ≡ Some h → r.opening ≡ Some h → t ≡ r) new w.spans (N.one_opening h)
+          (λ t q a b o p. absurd (stands t q a (o ∙ sym p))) (λ t q a b o p. absurd (stands t q b (p ∙ sym o))) (λ a b o p. refl);
+      spans = distinct_snoc w.spans new N.spans (λ q. below new q refl);
+      later = N.later;
+    }
+  where
+    stands : (t : Span) → t ∈ w.spans → t.fresh ≡ true → t.opening ≡ Some g → ⊥
+    stands t q a o = both_ways (has_opened g w.spans) e (stands_has {g = g} {l = w.spans} (record { span = t; inside = q; opened = o; newly = a }))
+
+    below : (t : Span) → t ∈ w.spans → t.serial ≡ w.next → ⊥
+    below t q p = omega (arith, N.young t q, p)
+
+pub neat_later : (d : Duty) (w : Work) → has_duty d w.later ≡ false → Neat w → Neat (with_later d w)
+neat_later d w e N = record { young = N.young; one_serial = N.one_serial; one_opening = N.one_opening; spans = N.spans; later = distinct_snoc w.later d N.later (not_has e) }
+
+pub neat_same : (w u : Work) → Neat w → u.spans ≡ w.spans → u.later ≡ w.later → u.next ≡ w.next → Neat u
+neat_same w u N a b c = record {
+  young = λ t q. subst (λ z. t.serial < z) (sym c) (N.young t (subst (λ z. t ∈ z) a q));
+  one_serial = λ t r q p. N.one_serial t r (subst (λ z. t ∈ z) a q) (subst (λ z. r ∈ z) a p);
+  one_opening = λ g t r q p. N.one_opening g t r (subst (λ z. t ∈ z) a q) (subst (λ z. r ∈ z) a p);
+  spans = subst (λ (z : List Span). Distinct z) (sym a) N.spans;
+  later = subst (λ (z : List Duty). Distinct z) (sym b) N.later;
+}
+
+give_neat : (S : Setting) (p : ℕ) (q : Option ℤ) (x : ℕ) (v : ℤ) (w : Work) → Neat w → OfWork Neat (give_by S p q x v w)
+give_neat S p None x v w h =
+    cond_both (fits S x v) (changed (with_value x v w)) (stops (Contradiction p)) (OfWork Neat) (λ e. neat_same w (with_value x v w) h refl refl refl) (λ e. tt)
+give_neat S p (Some u) x v w h = cond_both (same u v) (unchanged w) (stops (Contradiction p)) (OfWork Neat) (λ e. h) (λ e. tt)
+
+put_neat : (p : ℕ) (c e : End) (s : ℕ) (w : Work) → Neat w → OfWork Neat (put_by p c e s w)
+put_neat p Unknown Unknown s w h = h
+put_neat p Unknown On s w h = neat_same w (with_end On s w) h refl refl refl
+put_neat p Unknown Last s w h = neat_same w (with_end Last s w) h refl refl refl
+put_neat p On Unknown s w h = h
+put_neat p On On s w h = h
+put_neat p On Last s w h = tt
+put_neat p Last Unknown s w h = h
+put_neat p Last On s w h = tt
+put_neat p Last Last s w h = h
+
+room_neat : (b : Bool) (w : Work) → Neat w → OfWork Neat (if_room b w)
+room_neat true w h = h
+room_neat false w h = tt
+
+pub neat_kept : (S : Setting) → Kept S Neat
+neat_kept S = record {
+  gives = λ p x v w h. give_neat S p (w.known x) x v w h;
+  puts = λ p e s w h. put_neat p (w.ends s) e s w h;
+  adds = λ d w h.
+      cond_both (has_duty d w.duties) (unchanged w) (if_room (ltb (length w.duties) most_duties) (with_duty d w)) (OfWork Neat) (λ _. h)
+      (λ _. room_neat (ltb (length w.duties) most_duties) (with_duty d w) (neat_same w (with_duty d w) h refl refl refl));
+  carries = λ d w h.
+      cond_both (has_duty d w.later) (unchanged w) (if_room (ltb (length w.later) most_duties) (with_later d w)) (OfWork Neat) (λ _. h)
+      (λ e. room_neat (ltb (length w.later) most_duties) (with_later d w) (neat_later d w e h));
+  opens = λ g w h.
+      let room : Bool = ltb (length w.spans) most_spans && ltb (length w.duties) most_duties in
+      cond_both (has_opened g w.spans) (unchanged w) (if_room room (with_span g w)) (OfWork Neat) (λ _. h)
+      (λ e. room_neat room (with_span g w) (neat_new g w e h));
+}
