@@ -111,7 +111,7 @@ module _ (S : Setting) (k : ℕ) (o : Outcome) where
       or_same S k 0 (slice_get w.duties i) (visit_duties_else o S k f (suc i)) (visit_duties S k f (suc i)) w h
       (λ d e u g. never_out f (suc i) u (omega (arith, nth_within w.duties i d e, h.duties)) (omega arith) g)
 
-fuel_is : most_duties < pass_fuel + 0
+pub fuel_is : most_duties < pass_fuel + 0
 unfolding pass_fuel
 fuel_is = omega arith
 

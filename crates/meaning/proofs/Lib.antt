@@ -27,6 +27,7 @@ pub mod Records
 pub mod Theorems
 pub mod Alike
 pub mod Kept
+pub mod AnyVisits
 pub mod Distinct
 pub mod Neat
 pub mod RestGrants
