@@ -32,6 +32,9 @@ pub mod Distinct
 pub mod Neat
 pub mod RestGrants
 pub mod OneToOne
+pub mod PartStays
+pub mod Starts
+pub mod InRest
 pub mod Fuel
 pub mod Later
 pub mod Spent

@@ -61,6 +61,21 @@ pub record NoDoubles (u : Work) (n : ℕ) (φ : ℕ → ℕ) (w : Work) : Type 0
   pub duties : Distinct w.duties
   pub one_to_one : OneToOne n φ w u
 
+-- all that w starts with, v does too, where φ renames the serials of w, and ψ leads back
+pub record Like (φ ψ : ℕ → ℕ) (w v : Work) : Type 0 where
+  pub spans : (t : Span) → t ∈ w.spans → span_renamed φ t ∈ v.spans
+  pub duties : (d : Duty) → d ∈ w.duties → duty_renamed φ d ∈ v.duties
+  pub back : (s : ℕ) → Lives w.spans s → ψ (φ s) ≡ s
+  pub whole : φ 0 ≡ 0
+  pub has_whole : Lives w.spans 0
+
+-- and so does w all that v starts with
+pub record Twins (w v : Work) : Type 0 where
+  pub φ : ℕ → ℕ
+  pub ψ : ℕ → ℕ
+  pub there : Like φ ψ w v
+  pub back : Like ψ φ v w
+
 -- an outcome that lies inside u, one to one, by a renaming that is φ below n; it is no stop at all
 pub data Within (n : ℕ) (φ : ℕ → ℕ) (u : Work) : Outcome → Type 0 where
   within : {w : Work} (ψ : ℕ → ℕ) {c : Bool} → n ≤ w.next → ((s : ℕ) → s < n → ψ s ≡ φ s) → Part ψ w u → NoDoubles u w.next ψ w → Within n φ u (goes w c)

@@ -1,0 +1,170 @@
+-- What a state starts with, and what it settles to, along a run.
+use Rattle.std.proofs.Common.{◌≡◌, ℕ, ◌<◌, Bool, true, false, ◌&&◌, ltb, List, [], ◌∷◌, length, ℤ, Some, None, Option, ◌⊎◌, inl, inr, sym, refl, ap, ◌∙◌, subst, arith}
+use Rattle.std.proofs.lemmas.Bool.{both_ways, cond_both}
+use Rattle.sheet.specs.Limits.{Limits}
+use Rattle.value.specs.declared.parts.End.{End}
+use Rattle.value.specs.declared.parts.End.TheVariants.{Unknown, On, Last}
+use Rattle.value.specs.Values.{same}
+use Rattle.meaning.specs.declared.parts.Opening.{Opening}
+use Rattle.meaning.specs.declared.parts.Span.{Span}
+use Rattle.meaning.specs.declared.parts.Stop.TheVariants.{Contradiction}
+use Rattle.meaning.specs.Intervals.{Setting, fits}
+use Rattle.meaning.specs.Work.{Work, Outcome, stops, goes, unchanged, changed, has_duty, has_opened}
+use Rattle.meaning.specs.Effects.{most_duties, most_spans, with_value, with_duty, with_later, with_span, if_room, give_by, put_by}
+use Rattle.meaning.specs.Passes.{pass}
+use Rattle.meaning.specs.Visiting.{SettlesAnyhow, comes_to_rest}
+use Rattle.meaning.specs.Runs.{whole_span, first_work, kept_by, going_on, next_work}
+use Rattle.meaning.specs.Laws.{Roomy}
+use Rattle.meaning.specs.Order.{◌∈◌, here, there, Tidy}
+use Rattle.meaning.proofs.Lists.{all_snoc}
+use Rattle.meaning.proofs.Kept.{OfWork, Kept, kept_anyhow}
+use Rattle.meaning.proofs.Fuel.{roomy_kept, next_roomy}
+use Rattle.meaning.proofs.Begun.{Stays, going_in, stale}
+use Rattle.meaning.proofs.Grown.{Resting}
+use Rattle.meaning.proofs.AnyVisits.{anyhow_rests}
+use Rattle.meaning.proofs.Finish.{next_tidy, first_tidy}
+use Rattle.meaning.proofs.PartOf.{AtRest, Distinct, Neat}
+use Rattle.meaning.proofs.Neat.{neat_kept}
+
+-- what a state starts with
+pub record Start (S : Setting) (w : Work) : Type 0 where
+  pub tidy : Tidy S w
+  pub neat : Neat w
+  pub roomy : Roomy w
+  pub duties : Distinct w.duties
+  pub unknown : (x : ℕ) → w.known x ≡ None
+  pub free : (s : ℕ) → w.ends s ≡ Unknown
+  pub nothing : w.later ≡ []
+
+-- a span that was opened in this state
+pub record Born (t : Span) : Type 0 where
+  pub newly : t.fresh ≡ true
+  pub how : Opening
+  pub opened : t.opening ≡ Some how
+
+-- each span was there at the start, or was opened in this state
+abbrev pub Since : Work → Work → Type 0
+Since w u = (t : Span) → t ∈ u.spans → (t ∈ w.spans) ⊎ Born t
+
+since_room : (w : Work) (b : Bool) (u : Work) → Since w u → OfWork (Since w) (if_room b u)
+since_room w true u h = h
+since_room w false u h = tt
+
+since_give : (w : Work) (S : Setting) (p : ℕ) (q : Option ℤ) (x : ℕ) (v : ℤ) (u : Work) → Since w u → OfWork (Since w) (give_by S p q x v u)
+since_give w S p None x v u h = cond_both (fits S x v) (changed (with_value x v u)) (stops (Contradiction p)) (OfWork (Since w)) (λ e. h) (λ e. tt)
+since_give w S p (Some a) x v u h = cond_both (same a v) (unchanged u) (stops (Contradiction p)) (OfWork (Since w)) (λ e. h) (λ e. tt)
+
+since_put : (w : Work) (p : ℕ) (c e : End) (s : ℕ) (u : Work) → Since w u → OfWork (Since w) (put_by p c e s u)
+since_put w p Unknown Unknown s u h = h
+since_put w p Unknown On s u h = h
+since_put w p Unknown Last s u h = h
+since_put w p On Unknown s u h = h
+since_put w p On On s u h = h
+since_put w p On Last s u h = tt
+since_put w p Last Unknown s u h = h
+since_put w p Last On s u h = tt
+since_put w p Last Last s u h = h
+
+since_kept : (S : Setting) (w : Work) → Kept S (Since w)
+since_kept S w = record {
+  gives = λ p x v u h. since_give w S p (u.known x) x v u h;
+  puts = λ p e s u h. since_put w p (u.ends s) e s u h;
+  adds = λ d u h.
+      cond_both (has_duty d u.duties) (unchanged u) (if_room (ltb (length u.duties) most_duties) (with_duty d u)) (OfWork (Since w)) (λ _. h)
+      (λ _. since_room w (ltb (length u.duties) most_duties) (with_duty d u) h);
+  carries = λ d u h.
+      cond_both (has_duty d u.later) (unchanged u) (if_room (ltb (length u.later) most_duties) (with_later d u)) (OfWork (Since w)) (λ _. h)
+      (λ _. since_room w (ltb (length u.later) most_duties) (with_later d u) h);
+  opens = λ g u h.
+      let room : Bool = ltb (length u.spans) most_spans && ltb (length u.duties) most_duties in
+      cond_both (has_opened g u.spans) (unchanged u) (if_room room (with_span g u)) (OfWork (Since w)) (λ _. h)
+      (λ _. since_room w room (with_span g u) (all_snoc (λ t. (t ∈ w.spans) ⊎ Born t) _ u.spans h (inr (record { newly = refl; how = g; opened = refl }))));
+}
+
+-- what a state that starts with w settles to, by visits in some order
+pub record SettledFrom (S : Setting) (k : ℕ) (w u : Work) : Type 0 where
+  pub resting : Resting S k w u
+  pub at_rest : AtRest S k u
+  pub neat : Neat u
+  pub roomy : Roomy u
+  pub since : Since w u
+
+quiet_of : {S : Setting} {k : ℕ} {w u : Work} → SettlesAnyhow S k w (goes u false) → pass S k u ≡ goes u false
+quiet_of (comes_to_rest a e) = e
+
+pub settled_from : {S : Setting} → Limits S.sheet → {k : ℕ} {w u : Work} → Start S w → SettlesAnyhow S k w (goes u false) → SettledFrom S k w u
+settled_from {S} L {k} {w} {u} A s =
+    let R : Resting S k w u = anyhow_rests S L A.tidy s in
+    record {
+      resting = R;
+      at_rest = record { tidy = R.tidy; quiet = quiet_of s };
+      neat = kept_anyhow S Neat (neat_kept S) s A.neat;
+      roomy = kept_anyhow S Roomy (roomy_kept S) s A.roomy;
+      since = kept_anyhow S (Since w) (since_kept S w) s (λ t q. inl q);
+    }
+
+-- no two spans of the list have one serial
+abbrev OneSerial : List Span → Type 0
+OneSerial l = (t r : Span) → t ∈ l → r ∈ l → t.serial ≡ r.serial → t ≡ r
+
+distinct_going : (e : ℕ → End) (l : List Span) → Distinct l → OneSerial l → Distinct (going_on e l)
+distinct_going e [] d h = tt
+distinct_going e (x ∷ l) d h = by (e x.serial) (distinct_going e l d.1 (λ t r q p. h t r (there q) (there p)))
+  where
+    not_again : stale x ∈ going_on e l → ⊥
+    not_again q = let a : Stays e l (stale x) = going_in e l (stale x) q in d.0 (subst (λ z. z ∈ l) (h a.was x (there a.was_in) (here refl) a.same_serial) a.was_in)
+
+    by : (c : End) → Distinct (going_on e l) → Distinct (kept_by c x (going_on e l))
+    by Unknown i = i
+    by On i = (not_again, i)
+    by Last i = i
+
+-- spans that stay are one where their serials are
+stay_one : (u : Work) → Neat u → (t r : Span) → Stays u.ends u.spans t → Stays u.ends u.spans r → t.serial ≡ r.serial → t ≡ r
+stay_one u N t r a b e =
+    let w : a.was ≡ b.was = N.one_serial a.was b.was a.was_in b.was_in (a.same_serial ∙ e ∙ sym b.same_serial) in
+    let o : t.opening ≡ r.opening = sym a.same_opening_says ∙ ap (λ (z : Span). z.opening) w ∙ b.same_opening_says in
+    let f : t.fresh ≡ r.fresh = a.stale ∙ sym b.stale in
+    λ i. record { serial = e i; opening = o i; fresh = f i }
+
+module _ {S : Setting} where
+  pub next_start : {k : ℕ} {w u : Work} → SettledFrom S k w u → Start S (next_work u)
+  next_start {k} {w} {u} D = record {
+    tidy = next_tidy k w u D.resting;
+    neat = record {
+      young = λ t q. let a = going_in u.ends u.spans t q in subst (λ z. z < u.next) a.same_serial (D.neat.young a.was a.was_in);
+      one_serial = λ t r q p. stay_one u D.neat t r (going_in u.ends u.spans t q) (going_in u.ends u.spans r p);
+      one_opening = λ g t r q p a b. absurd (both_ways t.fresh (going_in u.ends u.spans t q).stale a);
+      spans = distinct_going u.ends u.spans D.neat.spans D.neat.one_serial;
+      later = tt;
+    };
+    roomy = next_roomy u D.roomy;
+    duties = D.neat.later;
+    unknown = λ x. refl;
+    free = λ s. refl;
+    nothing = refl;
+  }
+
+  pub first_start : (p : ℕ) → Start S (first_work p)
+  first_start p = record {
+    tidy = first_tidy p;
+    neat = record {
+      young = λ t q. young t q;
+      one_serial = λ t r q p e. only t q ∙ sym (only r p);
+      one_opening = λ g t r q p a b o c. only t q ∙ sym (only r p);
+      spans = ((λ q. elim q [ ]), tt);
+      later = tt;
+    };
+    roomy = record { duties = omega arith; later = omega arith; spans = omega arith };
+    duties = ((λ q. elim q [ ]), tt);
+    unknown = λ x. refl;
+    free = λ s. refl;
+    nothing = refl;
+  }
+    where
+      only : (t : Span) → t ∈ (whole_span ∷ []) → t ≡ whole_span
+      only t (here e) = e
+      only t (there q) = elim q [ ]
+
+      young : (t : Span) → t ∈ (whole_span ∷ []) → t.serial < 1
+      young t q = subst (λ z. z.serial < 1) (sym (only t q)) (omega arith)
