@@ -1,5 +1,8 @@
--- Lists without double entries: one more that is not there; and such a list fits, one to one, only into one that is as long.
-use Rattle.std.proofs.Common.{◌≡◌, suc, ◌≤◌, true, false, List, [], ◌∷◌, ◌++◌, length, sym, refl, ◌∙◌, subst, arith}
+-- Lists without double entries: one more that is not there; such a list fits, one to one, only into one that is as long;
+-- and two of them whose entries go there and back have the same entries.
+use Rattle.std.proofs.Common.{◌≡◌, suc, ◌≤◌, true, false, List, [], ◌∷◌, ◌++◌, length, map, sym, refl, ap, ◌∙◌, subst, arith}
+use Rattle.std.specs.Prelude.{IsPermutation}
+use Rattle.std.proofs.lemmas.List.Sorted.{IsPermutation-refl, IsPermutation-sym, IsPermutation-trans, IsPermutation-cons, IsPermutation-middle}
 use Rattle.std.proofs.lemmas.Bool.{both_ways, or_left, or_right}
 use Rattle.meaning.specs.declared.parts.Duty.{Duty}
 use Rattle.meaning.specs.Work.{same_duty, has_duty}
@@ -40,6 +43,47 @@ fits_in f (x ∷ l) m d i h =
     let r : length l ≤ length (without q) = fits_in f l (without q) d.1 (λ a b p t e. i a b (there p) (there t) e)
     (λ y p. still_in q (f y) (h y (there p)) (λ e. d.0 (subst (λ z. z ∈ l) (i y x (there p) (here refl) e) p))) in
     omega (arith, without_length q, r)
+
+-- what is left of a list does not have the entry that was taken out, if no entry comes twice
+none_left : {A : Type 0} {x : A} {l : List A} (q : x ∈ l) → Distinct l → x ∈ without q → ⊥
+none_left (here {l = l} e) d r = d.0 (subst (λ z. z ∈ l) e r)
+none_left (there {l = l} q) d (here e) = d.0 (subst (λ z. z ∈ l) e q)
+none_left (there q) d (there r) = none_left q d.1 r
+
+was_in : {A : Type 0} {x : A} {l : List A} (q : x ∈ l) (y : A) → y ∈ without q → y ∈ l
+was_in (here e) y r = there r
+was_in (there q) y (here e) = here e
+was_in (there q) y (there r) = there (was_in q y r)
+
+without_distinct : {A : Type 0} {x : A} {l : List A} (q : x ∈ l) → Distinct l → Distinct (without q)
+without_distinct (here e) d = d.1
+without_distinct (there {x = y} q) d = ((λ r. d.0 (was_in q y r)), without_distinct q d.1)
+
+to_front : {A : Type 0} {x : A} {l : List A} (q : x ∈ l) → IsPermutation (x ∷ without q) l
+to_front {x = x} (here {x = y} {l = l} e) = subst (λ z. IsPermutation (x ∷ l) (z ∷ l)) e (IsPermutation-refl (x ∷ l))
+to_front {x = x} (there {x = y} {l = l} q) =
+    IsPermutation-trans _ _ _ (IsPermutation-sym _ _ (IsPermutation-middle (y ∷ []) x (without q))) (IsPermutation-cons y _ _ (to_front q))
+
+-- two lists without double entries whose entries go there and back have the same entries
+pub permuted : {A B : Type 0} (f : A → B) (g : B → A) (l : List A) (m : List B) → Distinct l → Distinct m
+    → ((x : A) → x ∈ l → f x ∈ m) → ((y : B) → y ∈ m → g y ∈ l) → ((x : A) → x ∈ l → g (f x) ≡ x) → ((y : B) → y ∈ m → f (g y) ≡ y) → IsPermutation (map f l) m
+permuted f g [] [] d e h k i j = IsPermutation-refl []
+permuted f g [] (y ∷ m) d e h k i j = absurd (elim (k y (here refl)) [ ])
+permuted {A} {B} f g (x ∷ l) m d e h k i j =
+    IsPermutation-trans _ _ _ (IsPermutation-cons (f x) _ _ (permuted f g l (without q) d.1 (without_distinct q e) there_still back_still (λ a p. i a (there p)) (λ b p. j b (was_in q b p)))) (to_front q)
+  where
+    q : f x ∈ m
+    q = h x (here refl)
+
+    there_still : (a : A) → a ∈ l → f a ∈ without q
+    there_still a p = still_in q (f a) (h a (there p)) (λ n. d.0 (subst (λ z. z ∈ l) (sym (i a (there p)) ∙ ap g n ∙ i x (here refl)) p))
+
+    back_still : (b : B) → b ∈ without q → g b ∈ l
+    back_still b p = by (k b (was_in q b p))
+      where
+        by : g b ∈ (x ∷ l) → g b ∈ l
+        by (here n) = absurd (none_left q e (subst (λ z. z ∈ without q) (sym (j b (was_in q b p)) ∙ ap f n) p))
+        by (there r) = r
 
 pub in_has : {d : Duty} {l : List Duty} → d ∈ l → has_duty d l ≡ true
 in_has {d} (here {x = x} {l = l} e) = or_left (same_duty d x) (has_duty d l) (subst (λ z. same_duty d z ≡ true) e (duty_itself d))

@@ -35,6 +35,7 @@ pub mod OneToOne
 pub mod PartStays
 pub mod Starts
 pub mod InRest
+pub mod SameRests
 pub mod Fuel
 pub mod Later
 pub mod Spent
