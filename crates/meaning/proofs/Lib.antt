@@ -36,6 +36,8 @@ pub mod PartStays
 pub mod Starts
 pub mod InRest
 pub mod SameRests
+pub mod OrderLaw
+pub mod OrderRuns
 pub mod Fuel
 pub mod Later
 pub mod Spent

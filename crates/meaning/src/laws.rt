@@ -2,6 +2,7 @@
 ghost use Rattle.std.specs.Prelude.{◌≡◌, ◌+◌};
 ghost use Rattle.meaning.specs.Work.{plain};
 ghost use Rattle.meaning.specs.Passes.{pass_fuel};
+ghost use Rattle.meaning.specs.AnyOrder.{OrderMakesNoDifference};
 ghost use Rattle.meaning.specs.Laws.{SettlingEnds, FinishedIsTheOne, OpenBeginsAll, ContradictionLeavesNone, EqualRunsAgree, FuelSuffices};
 
 use crate::parts::Duty;
@@ -15,6 +16,7 @@ pub fn first_duty(run: u16) -> Duty
     ensures begins { OpenBeginsAll }
     ensures none { ContradictionLeavesNone }
     ensures agree { EqualRunsAgree }
+    ensures order { OrderMakesNoDifference }
 {
     Duty {
         statement: run,

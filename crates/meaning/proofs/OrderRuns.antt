@@ -1,0 +1,194 @@
+-- The law that the order of visits makes no difference, for whole runs.
+use Rattle.std.proofs.Common.{◌≡◌, ℕ, suc, ◌<◌, ◌≤◌, List, [], ◌∷◌, ◌++◌, length, ℤ, Some, None, Option, ⊎_elim, sym, refl, subst, arith}
+use native.Mathlib.Decide.{ℕ_discrete}
+use Rattle.std.proofs.lemmas.Bool.{cases_lt}
+use Rattle.sheet.specs.Content.{Content}
+use Rattle.sheet.specs.Limits.{Limits}
+use Rattle.feed.specs.Readings.{SameReadings}
+use Rattle.meaning.specs.declared.parts.Stop.{Stop}
+use Rattle.meaning.specs.Intervals.{Setting, under}
+use Rattle.meaning.specs.Work.{Work, Outcome}
+use Rattle.meaning.specs.Passes.{Settles}
+use Rattle.meaning.specs.Visiting.{Visits, SettlesAnyhow, Visiting, in_passes, in_any_order, SettlesBy}
+use Rattle.meaning.specs.Runs.{Step, stopped, recorded, finished, StepsBy, OpenBy, start, onward, FinishedBy, finish, StoppedBy, stop, RecordBy, open_record, finished_record}
+use Rattle.meaning.specs.AnyOrder.{EndedBy, has_finished, has_stopped, SameVerdict, both_finished, both_undetermined, both_broken, OrderMakesNoDifference}
+use Rattle.meaning.proofs.Lists.{longer}
+use Rattle.meaning.proofs.Grown.{settles_total}
+use Rattle.meaning.proofs.Kept.{kept_visits}
+use Rattle.meaning.proofs.Fuel.{roomy_kept}
+use Rattle.meaning.proofs.AnyVisits.{visits_move, passes_anyhow}
+use Rattle.meaning.proofs.Starts.{Start}
+use Rattle.meaning.proofs.SameRests.{starts_same}
+use Rattle.meaning.proofs.OrderLaw.{MeetSteps, meet_finished, meet_undetermined, meet_broken, same_outcome, Together, meet_at, steps_at, together, same_more}
+
+same_readings : (f : ℕ → ℕ → Option ℤ) → SameReadings f f
+same_readings f x k = refl
+
+-- ---- each state is settled in some order
+
+module _ {S : Setting} (L : Limits S.sheet) where
+  pub start_of : {r : List (List ℤ)} {w : Work} → OpenBy in_any_order S r w → Start S w
+  start_of o = (together S.sheet L S.readings S.readings (same_readings S.readings) o o refl).paired.one
+
+  settles_any : (i : Visiting) {k : ℕ} {w : Work} {o : Outcome} → Start S w → SettlesBy i S k w o → SettlesAnyhow S k w o
+  settles_any in_passes A s = passes_anyhow S L A.tidy A.roomy s
+  settles_any in_any_order A s = s
+
+  steps_any : (i : Visiting) {k : ℕ} {w : Work} {s : Step} → Start S w → StepsBy i S k w s → StepsBy in_any_order S k w s
+  steps_any i A s = record { outcome = s.outcome; settles = settles_any i A s.settles; comes = s.comes }
+
+  pub open_any : (i : Visiting) {r : List (List ℤ)} {w : Work} → OpenBy i S r w → OpenBy in_any_order S r w
+  open_any i start = start
+  open_any i (onward o s) = let a = open_any i o in onward a (steps_any i (start_of a) s)
+
+  finished_any : (i : Visiting) {r : List (List ℤ)} → FinishedBy i S r → FinishedBy in_any_order S r
+  finished_any i (finish o s) = let a = open_any i o in finish a (steps_any i (start_of a) s)
+
+  stopped_any : (i : Visiting) {r : List (List ℤ)} {p : Stop} → StoppedBy i S r p → StoppedBy in_any_order S r p
+  stopped_any i (stop o s) = let a = open_any i o in stop a (steps_any i (start_of a) s)
+
+  ended_any : (i : Visiting) {r : List (List ℤ)} {x : Option Stop} → EndedBy i S r x → EndedBy in_any_order S r x
+  ended_any i (has_finished h) = has_finished (finished_any i h)
+  ended_any i (has_stopped h) = has_stopped (stopped_any i h)
+
+  -- after any visits, others bring the state to an outcome
+  comes_to_an_end : {r : List (List ℤ)} {w u : Work} {k : ℕ} → OpenBy in_any_order S r w → Visits S k w u → (o : Outcome) × SettlesAnyhow S k u o
+  comes_to_an_end {u = u} {k = k} o a =
+      let A : Start S _ = start_of o in
+      let t = (visits_move S L A.tidy a).1 in
+      let s : (p : Outcome) × Settles S k u p = settles_total S L k u t in
+      (s.0, passes_anyhow S L t (kept_visits S _ (roomy_kept S) a A.roomy) s.1)
+
+-- ---- a run that has gone on was at each earlier count
+
+-- a run at its count n, with the state that it recorded then
+record Earlier (S : Setting) (n : ℕ) : Type 0 where
+  so_far : List (List ℤ)
+  work : Work
+  run : OpenBy in_any_order S so_far work
+  counted : length so_far ≡ n
+  state : List ℤ
+  after : Work
+  step : StepsBy in_any_order S (length so_far) work (recorded state after)
+
+earlier : {S : Setting} {r : List (List ℤ)} {w : Work} (n : ℕ) → OpenBy in_any_order S r w → n < length r → Earlier S n
+earlier n start l = absurd (omega arith)
+earlier {S} n (onward {r = r} {w = w} {u = u} {x = x} o s) l = by (ℕ_discrete (length r) n) (earlier n o)
+  where
+    by : Dec (length r ≡ n) → (n < length r → Earlier S n) → Earlier S n
+    by (yes e) h = record { so_far = r; work = w; run = o; counted = e; state = x; after = u; step = s }
+    by (no e) h = h (omega (arith, l, longer r x, e))
+
+-- the record and the verdict of a run, by its last step and the record before
+data Closes (q : List (List ℤ)) : Step → List (List ℤ) → Option Stop → Type 0 where
+  by_finish : {x : List ℤ} → Closes q (finished x) (q ++ (x ∷ [])) None
+  by_stop : {p : Stop} → Closes q (stopped p) q (Some p)
+
+-- the last step of a run that has ended
+record LastStep (S : Setting) (r : List (List ℤ)) (x : Option Stop) : Type 0 where
+  before : List (List ℤ)
+  work : Work
+  run : OpenBy in_any_order S before work
+  step : Step
+  steps : StepsBy in_any_order S (length before) work step
+  closes : Closes before step r x
+
+last_step : {S : Setting} {r : List (List ℤ)} {x : Option Stop} → EndedBy in_any_order S r x → LastStep S r x
+last_step (has_finished (finish o s)) = record { before = _; work = _; run = o; step = _; steps = s; closes = by_finish }
+last_step (has_stopped (stop o s)) = record { before = _; work = _; run = o; step = _; steps = s; closes = by_stop }
+
+not_longer : {q r : List (List ℤ)} {t : Step} {x : Option Stop} → Closes q t r x → length q ≤ length r
+not_longer {q} (by_finish {x = x}) = omega (arith, longer q x)
+not_longer by_stop = omega arith
+
+-- a step that closes a run does not meet one that goes on
+on_not_finished : {S T : Setting} {x y : List ℤ} {w : Work} → MeetSteps S T (finished x) (recorded y w) → ⊥
+on_not_finished m = elim m [ ]
+
+on_not_stopped : {S T : Setting} {p : Stop} {y : List ℤ} {w : Work} → MeetSteps S T (stopped p) (recorded y w) → ⊥
+on_not_stopped m = elim m [ ]
+
+finished_not_stopped : {S T : Setting} {x : List ℤ} {p : Stop} → MeetSteps S T (finished x) (stopped p) → ⊥
+finished_not_stopped m = elim m [ ]
+
+stopped_not_finished : {S T : Setting} {x : List ℤ} {p : Stop} → MeetSteps S T (stopped p) (finished x) → ⊥
+stopped_not_finished m = elim m [ ]
+
+closed_not_on : {S T : Setting} {q r : List (List ℤ)} {t : Step} {x : Option Stop} {y : List ℤ} {w : Work} → Closes q t r x → MeetSteps S T t (recorded y w) → ⊥
+closed_not_on by_finish m = on_not_finished m
+closed_not_on by_stop m = on_not_stopped m
+
+-- two that close runs with equal records so far
+record Alike (q r : List (List ℤ)) (x y : Option Stop) : Type 0 where
+  equal : q ≡ r
+  verdict : SameVerdict x y
+
+closed_alike : {S T : Setting} {a b q r : List (List ℤ)} {s t : Step} {x y : Option Stop} → a ≡ b → Closes a s q x → Closes b t r y → MeetSteps S T s t → Alike q r x y
+closed_alike e by_finish by_finish meet_finished = record { equal = same_more e refl; verdict = both_finished }
+closed_alike e by_finish by_stop m = absurd (finished_not_stopped m)
+closed_alike e by_stop by_finish m = absurd (stopped_not_finished m)
+closed_alike e by_stop by_stop meet_undetermined = record { equal = e; verdict = both_undetermined }
+closed_alike e by_stop by_stop (meet_broken a b) = record { equal = e; verdict = both_broken a b }
+
+-- ---- two runs
+
+module _ (c : Content) (L : Limits c) (f g : ℕ → ℕ → Option ℤ) (R : SameReadings f g) where
+  -- the one does not go on beyond the last step of the other
+  goes_no_further : {q r : List (List ℤ)} {x : Option Stop} {w : Work} (e : LastStep (under c f) q x) → OpenBy in_any_order (under c g) r w → length e.before < length r → ⊥
+  goes_no_further e o l =
+      let h : Earlier (under c g) (length e.before) = earlier (length e.before) o l in
+      let m : Together (under c f) (under c g) e.before h.so_far e.work h.work = together c L f g R e.run h.run (sym h.counted) in
+      closed_not_on e.closes (steps_at c L f g R (length e.before) (length h.so_far) (sym h.counted) m.paired e.steps h.step)
+
+flipped : {f g : ℕ → ℕ → Option ℤ} → SameReadings f g → SameReadings g f
+flipped R x k = sym (R x k)
+
+module _ (c : Content) (L : Limits c) (f g : ℕ → ℕ → Option ℤ) (R : SameReadings f g) where
+  -- so two that have ended did so at one count, alike
+  ended_alike : {q r : List (List ℤ)} {x y : Option Stop} → LastStep (under c f) q x → LastStep (under c g) r y → Alike q r x y
+  ended_alike {q} {r} {x} {y} a b = by (ℕ_discrete (length a.before) (length b.before))
+    where
+      apart : (length a.before ≡ length b.before → ⊥) → ⊥
+      apart n =
+          ⊎_elim (λ (l : length a.before < length b.before). goes_no_further c L f g R a b.run l)
+          (λ (l : length b.before ≤ length a.before). goes_no_further c L g f (flipped R) b a.run (omega (arith, n))) (cases_lt (length a.before) (length b.before))
+
+      by : Dec (length a.before ≡ length b.before) → Alike q r x y
+      by (yes e) =
+          let m : Together (under c f) (under c g) a.before b.before a.work b.work = together c L f g R a.run b.run e in
+          closed_alike m.equal a.closes b.closes (steps_at c L f g R (length a.before) (length b.before) e m.paired a.steps b.steps)
+      by (no e) = absurd (apart e)
+
+  -- no order leads beyond the state at which one has ended
+  no_longer : {q r : List (List ℤ)} {x : Option Stop} {w : Work} → LastStep (under c f) q x → OpenBy in_any_order (under c g) r w → length r ≤ length q
+  no_longer {q} {r} e o =
+      ⊎_elim (λ (l : length e.before < length r). absurd (goes_no_further c L f g R e o l)) (λ (l : length r ≤ length e.before). omega (arith, l, not_longer e.closes)) (cases_lt (length e.before) (length r))
+
+  -- a run that goes on has another count than one that has finished
+  open_not_finished : {q r : List (List ℤ)} {w : Work} → FinishedBy in_any_order (under c f) q → OpenBy in_any_order (under c g) r w → length r ≡ length q → ⊥
+  open_not_finished (finish {r = q} {x = x} a s) o e =
+      goes_no_further c L f g R (record { before = q; work = _; run = a; step = _; steps = s; closes = by_finish }) o (omega (arith, e, longer q x))
+
+module _ (c : Content) (L : Limits c) (f g : ℕ → ℕ → Option ℤ) (R : SameReadings f g) where
+  record_alike : {q r : List (List ℤ)} (i j : Visiting) → RecordBy i (under c f) q → RecordBy j (under c g) r → length q ≡ length r → q ≡ r
+  record_alike i j (open_record w a) (open_record v b) e = (together c L f g R (open_any L i a) (open_any L j b) e).equal
+  record_alike i j (open_record w a) (finished_record b) e = absurd (open_not_finished c L g f (flipped R) (finished_any L j b) (open_any L i a) e)
+  record_alike i j (finished_record a) (open_record v b) e = absurd (open_not_finished c L f g R (finished_any L i a) (open_any L j b) (sym e))
+  record_alike i j (finished_record a) (finished_record b) e = (ended_alike c L f g R (last_step (has_finished (finished_any L i a))) (last_step (has_finished (finished_any L j b)))).equal
+
+pub order_makes_no_difference : OrderMakesNoDifference
+order_makes_no_difference = record {
+  passes = λ S L r w o p s. settles_any L in_passes (start_of L o) s;
+  engines = λ S L r w o. open_any L in_passes o;
+  ends = λ S L r w u o a. comes_to_an_end L o a;
+  states = λ c f g L R q r w v a b e.
+      let m : Together (under c f) (under c g) q r w v = together c L f g R a b e in
+      (
+        m.equal,
+        starts_same m.paired,
+        λ o p s t. same_outcome (meet_at c L f g R (length q) m.paired s (subst (λ k. SettlesAnyhow (under c g) k v p) (sym e) t)),
+      );
+  records = λ c f g L R i j q r a b e. record_alike c L f g R i j a b e;
+  verdicts = λ c f g L R i j q r x y a b. let m : Alike q r x y = ended_alike c L f g R (last_step (ended_any L i a)) (last_step (ended_any L j b)) in (m.equal, m.verdict);
+  no_further = λ c f g L R i j q r x w a o. no_longer c L f g R (last_step (ended_any L i a)) (open_any L j o);
+}
