@@ -7,7 +7,8 @@ use Rattle.verdict.specs.Verdict.{verdict}
 use Rattle.meaning.specs.declared.parts.Stop.{Stop}
 use Rattle.meaning.specs.Intervals.{Setting, under}
 use Rattle.meaning.specs.Work.{Work}
-use Rattle.meaning.specs.Runs.{first_work, Steps, stopped, recorded, finished as finishes}
+use Rattle.meaning.specs.Visiting.{Visiting, in_passes}
+use Rattle.meaning.specs.Runs.{first_work, StepsBy, stopped, recorded, finished as finishes}
 use Rattle.calls.specs.declared.parts.Denial.{Denial}
 use Rattle.calls.specs.declared.parts.Denial.TheVariants.{RunIsOpen, NoRunIsOpen, WrongStates, OtherRecorder, NoSuchState, NoSuchVariable}
 use Rattle.calls.specs.declared.parts.Ending.TheVariants.{Finished, Abandoned, Stopped}
@@ -47,21 +48,25 @@ BeginsIn (ended x) capacity e q a d p = Opens capacity e a d p
 abbrev pub Begins : (ℕ → ℕ) → Meant → Recording → Told → Meant → Recording → Type 0
 Begins capacity e q a d p = BeginsIn e.standing capacity e q a d p
 
--- up to so many states more, from the work w and the recorder q of an open run: what is answered, how the engine stands then, and the recorder
-pub data Settled (S : Setting) : ℕ → Recording → Work → Told → Standing → Recording → Type 0 where
+-- up to so many states more, each settled so, from the work w and the recorder q of an open run: what is answered, how the engine stands then, and the recorder
+pub data SettledBy (i : Visiting) (S : Setting) : ℕ → Recording → Work → Told → Standing → Recording → Type 0 where
   -- no more states are asked for: the run goes on
-  all_asked : {q : Recording} {w : Work} → Settled S zero q w (is_open (count (length q.states) ∷ [])) (running (length q.states) w) q
+  all_asked : {q : Recording} {w : Work} → SettledBy i S zero q w (is_open (count (length q.states) ∷ [])) (running (length q.states) w) q
   -- there is no room: the run goes on
-  no_room : {n : ℕ} {q : Recording} {w : Work} → q.room ≡ 0 → Settled S (suc n) q w (told_advance (Full (length q.states))) (running (length q.states) w) q
+  no_room : {n : ℕ} {q : Recording} {w : Work} → q.room ≡ 0 → SettledBy i S (suc n) q w (told_advance (Full (length q.states))) (running (length q.states) w) q
   -- the next state meets a stop: it is not recorded, and the run has ended
-  met_stop : {n : ℕ} {q : Recording} {w : Work} {s : Stop} → 0 < q.room → Steps S (length q.states) w (stopped s)
-      → Settled S (suc n) q w (told_stop (length q.states) s) (ended (Stopped (record { stop = s; state = length q.states }))) q
+  met_stop : {n : ℕ} {q : Recording} {w : Work} {s : Stop} → 0 < q.room → StepsBy i S (length q.states) w (stopped s)
+      → SettledBy i S (suc n) q w (told_stop (length q.states) s) (ended (Stopped (record { stop = s; state = length q.states }))) q
   -- the next state is recorded, and is the last: the run has finished
-  last_state : {n : ℕ} {q : Recording} {w : Work} {x : List ℤ} → 0 < q.room → Steps S (length q.states) w (finishes x)
-      → Settled S (suc n) q w (is_finished (count (length q.states + 1) ∷ [])) (ended Finished) (with_state x q)
+  last_state : {n : ℕ} {q : Recording} {w : Work} {x : List ℤ} → 0 < q.room → StepsBy i S (length q.states) w (finishes x)
+      → SettledBy i S (suc n) q w (is_finished (count (length q.states + 1) ∷ [])) (ended Finished) (with_state x q)
   -- the next state is recorded, and then the others
-  one_more : {n : ℕ} {q p : Recording} {w u : Work} {x : List ℤ} {a : Told} {s : Standing} → 0 < q.room → Steps S (length q.states) w (recorded x u)
-      → Settled S n (with_state x q) u a s p → Settled S (suc n) q w a s p
+  one_more : {n : ℕ} {q p : Recording} {w u : Work} {x : List ℤ} {a : Told} {s : Standing} → 0 < q.room → StepsBy i S (length q.states) w (recorded x u)
+      → SettledBy i S n (with_state x q) u a s p → SettledBy i S (suc n) q w a s p
+
+-- the same of an engine, which settles them in passes
+abbrev pub Settled : Setting → ℕ → Recording → Work → Told → Standing → Recording → Type 0
+Settled S n q w a s p = SettledBy in_passes S n q w a s p
 
 -- why an open run with k states is not advanced by n states with the recorder q, if so
 abbrev pub not_advanced : ℕ → ℕ → Meant → Recording → Option Denial

@@ -2,3 +2,4 @@
 pub mod Meant
 pub mod Told
 pub mod Calls
+pub mod AnyOrder

@@ -101,6 +101,26 @@ pub data MeetSteps (S T : Setting) : Step → Step → Type 0 where
   meet_undetermined : {x : LeftOpen} → MeetSteps S T (stopped (Undetermined x)) (stopped (Undetermined x))
   meet_broken : {p q : Stop} → Broken p → Broken q → MeetSteps S T (stopped p) (stopped q)
 
+-- steps of two kinds do not
+module _ {S T : Setting} where
+  pub not_finished_recorded : {x y : List ℤ} {w : Work} → MeetSteps S T (finished x) (recorded y w) → ⊥
+  not_finished_recorded m = elim m [ ]
+
+  pub not_stopped_recorded : {p : Stop} {y : List ℤ} {w : Work} → MeetSteps S T (stopped p) (recorded y w) → ⊥
+  not_stopped_recorded m = elim m [ ]
+
+  pub not_finished_stopped : {x : List ℤ} {p : Stop} → MeetSteps S T (finished x) (stopped p) → ⊥
+  not_finished_stopped m = elim m [ ]
+
+  pub not_stopped_finished : {x : List ℤ} {p : Stop} → MeetSteps S T (stopped p) (finished x) → ⊥
+  not_stopped_finished m = elim m [ ]
+
+  pub not_recorded_finished : {x y : List ℤ} {w : Work} → MeetSteps S T (recorded x w) (finished y) → ⊥
+  not_recorded_finished m = elim m [ ]
+
+  pub not_recorded_stopped : {x : List ℤ} {w : Work} {p : Stop} → MeetSteps S T (recorded x w) (stopped p) → ⊥
+  not_recorded_stopped m = elim m [ ]
+
 module _ {S T : Setting} {k : ℕ} {a b u v : Work} (M : Mutual S T k a b u v) where
   meet_closed : (n : ℕ) (c : End) → u.ends 0 ≡ c → MeetSteps S T (closed_by c n u) (closed_by c n v)
   meet_closed n Unknown e = meet_undetermined
@@ -140,11 +160,11 @@ pub record Together (S T : Setting) (q r : List (List ℤ)) (w v : Work) : Type 
   pub paired : Paired S T w v
 
 -- a recorded state, and one that is the same
-record Recorded (S T : Setting) (x y : List ℤ) (w v : Work) : Type 0 where
-  state : x ≡ y
-  paired : Paired S T w v
+pub record Recorded (S T : Setting) (x y : List ℤ) (w v : Work) : Type 0 where
+  pub state : x ≡ y
+  pub paired : Paired S T w v
 
-both_recorded : {S T : Setting} {x y : List ℤ} {w v : Work} → MeetSteps S T (recorded x w) (recorded y v) → Recorded S T x y w v
+pub both_recorded : {S T : Setting} {x y : List ℤ} {w v : Work} → MeetSteps S T (recorded x w) (recorded y v) → Recorded S T x y w v
 both_recorded (meet_recorded P) = record { state = refl; paired = P }
 
 pub same_more : {q r : List (List ℤ)} {x y : List ℤ} → q ≡ r → x ≡ y → (q ++ (x ∷ [])) ≡ (r ++ (y ∷ []))

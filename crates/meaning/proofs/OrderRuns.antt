@@ -19,7 +19,7 @@ use Rattle.meaning.proofs.Fuel.{roomy_kept}
 use Rattle.meaning.proofs.AnyVisits.{visits_move, passes_anyhow}
 use Rattle.meaning.proofs.Starts.{Start}
 use Rattle.meaning.proofs.SameRests.{starts_same}
-use Rattle.meaning.proofs.OrderLaw.{MeetSteps, meet_finished, meet_undetermined, meet_broken, same_outcome, Together, meet_at, steps_at, together, same_more}
+use Rattle.meaning.proofs.OrderLaw.{MeetSteps, meet_finished, meet_undetermined, meet_broken, not_finished_recorded, not_stopped_recorded, not_finished_stopped, not_stopped_finished, same_outcome, Together, meet_at, steps_at, together, same_more}
 
 same_readings : (f : ℕ → ℕ → Option ℤ) → SameReadings f f
 same_readings f x k = refl
@@ -34,7 +34,7 @@ module _ {S : Setting} (L : Limits S.sheet) where
   settles_any in_passes A s = passes_anyhow S L A.tidy A.roomy s
   settles_any in_any_order A s = s
 
-  steps_any : (i : Visiting) {k : ℕ} {w : Work} {s : Step} → Start S w → StepsBy i S k w s → StepsBy in_any_order S k w s
+  pub steps_any : (i : Visiting) {k : ℕ} {w : Work} {s : Step} → Start S w → StepsBy i S k w s → StepsBy in_any_order S k w s
   steps_any i A s = record { outcome = s.outcome; settles = settles_any i A s.settles; comes = s.comes }
 
   pub open_any : (i : Visiting) {r : List (List ℤ)} {w : Work} → OpenBy i S r w → OpenBy in_any_order S r w
@@ -102,21 +102,9 @@ not_longer {q} (by_finish {x = x}) = omega (arith, longer q x)
 not_longer by_stop = omega arith
 
 -- a step that closes a run does not meet one that goes on
-on_not_finished : {S T : Setting} {x y : List ℤ} {w : Work} → MeetSteps S T (finished x) (recorded y w) → ⊥
-on_not_finished m = elim m [ ]
-
-on_not_stopped : {S T : Setting} {p : Stop} {y : List ℤ} {w : Work} → MeetSteps S T (stopped p) (recorded y w) → ⊥
-on_not_stopped m = elim m [ ]
-
-finished_not_stopped : {S T : Setting} {x : List ℤ} {p : Stop} → MeetSteps S T (finished x) (stopped p) → ⊥
-finished_not_stopped m = elim m [ ]
-
-stopped_not_finished : {S T : Setting} {x : List ℤ} {p : Stop} → MeetSteps S T (stopped p) (finished x) → ⊥
-stopped_not_finished m = elim m [ ]
-
 closed_not_on : {S T : Setting} {q r : List (List ℤ)} {t : Step} {x : Option Stop} {y : List ℤ} {w : Work} → Closes q t r x → MeetSteps S T t (recorded y w) → ⊥
-closed_not_on by_finish m = on_not_finished m
-closed_not_on by_stop m = on_not_stopped m
+closed_not_on by_finish m = not_finished_recorded m
+closed_not_on by_stop m = not_stopped_recorded m
 
 -- two that close runs with equal records so far
 record Alike (q r : List (List ℤ)) (x y : Option Stop) : Type 0 where
@@ -125,8 +113,8 @@ record Alike (q r : List (List ℤ)) (x y : Option Stop) : Type 0 where
 
 closed_alike : {S T : Setting} {a b q r : List (List ℤ)} {s t : Step} {x y : Option Stop} → a ≡ b → Closes a s q x → Closes b t r y → MeetSteps S T s t → Alike q r x y
 closed_alike e by_finish by_finish meet_finished = record { equal = same_more e refl; verdict = both_finished }
-closed_alike e by_finish by_stop m = absurd (finished_not_stopped m)
-closed_alike e by_stop by_finish m = absurd (stopped_not_finished m)
+closed_alike e by_finish by_stop m = absurd (not_finished_stopped m)
+closed_alike e by_stop by_finish m = absurd (not_stopped_finished m)
 closed_alike e by_stop by_stop meet_undetermined = record { equal = e; verdict = both_undetermined }
 closed_alike e by_stop by_stop (meet_broken a b) = record { equal = e; verdict = both_broken a b }
 

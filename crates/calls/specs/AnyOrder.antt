@@ -1,0 +1,38 @@
+-- The order of visits makes no difference to an advance. Assumes nothing.
+use Rattle.std.specs.Prelude.{◌≡◌, ℕ, ℤ, Option}
+use Rattle.sheet.specs.Content.{Content}
+use Rattle.sheet.specs.Limits.{Limits}
+use Rattle.feed.specs.Readings.{SameReadings}
+use Rattle.meaning.specs.declared.parts.Stop.{Stop}
+use Rattle.meaning.specs.Intervals.{under}
+use Rattle.meaning.specs.Work.{Work}
+use Rattle.meaning.specs.Visiting.{Visiting}
+use Rattle.meaning.specs.Runs.{OpenBy}
+use Rattle.meaning.specs.AnyOrder.{SameButForOrder, Broken}
+use Rattle.calls.specs.declared.parts.Ending.{Ending}
+use Rattle.calls.specs.declared.parts.Ending.TheVariants.{Stopped}
+use Rattle.calls.specs.Meant.{Standing, running, ended, Recording}
+use Rattle.calls.specs.Told.{Told, told_stop}
+use Rattle.calls.specs.Calls.{SettledBy}
+
+-- two answers that are the same, or of which both tell of a contradiction or of crowding, at one state
+pub data SameAnswer : Told → Told → Type 0 where
+  same_answer : {a : Told} → SameAnswer a a
+  both_tell_of_a_stop : (k : ℕ) (x y : Stop) → Broken x → Broken y → SameAnswer (told_stop k x) (told_stop k y)
+
+-- two engines that stand alike: both with a run that goes on, with works that are the same but for order; or both with one that has ended
+-- in one way, or with a contradiction or crowding at one state
+pub data StandAlike : Standing → Standing → Type 0 where
+  both_run : {k : ℕ} {w v : Work} → SameButForOrder w v → StandAlike (running k w) (running k v)
+  same_end : {e : Ending} → StandAlike (ended e) (ended e)
+  both_stopped : {k : ℕ} {x y : Stop} → Broken x → Broken y → StandAlike (ended (Stopped (record { stop = x; state = k }))) (ended (Stopped (record { stop = y; state = k })))
+
+-- two advances by as many states, of runs of equal sheets under equal readings, with equal recorders and each in an order of its own, record the same
+-- and answer alike
+abbrev pub AdvancesAgree : Type 0
+AdvancesAgree =
+    (c : Content) (f g : ℕ → ℕ → Option ℤ) → Limits c → SameReadings f g
+    → (i j : Visiting) (n : ℕ) (q p r : Recording) (w v : Work) (a b : Told) (s t : Standing)
+    → OpenBy i (under c f) q.states w → OpenBy j (under c g) q.states v
+    → SettledBy i (under c f) n q w a s p → SettledBy j (under c g) n q v b t r
+    → (p ≡ r) × SameAnswer a b × StandAlike s t
