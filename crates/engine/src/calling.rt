@@ -2,6 +2,7 @@
 ghost use Rattle.std.specs.Prelude.{◌≡◌, ℕ, IfOk, Ok as ok, Err as err};
 ghost use Rattle.sheet.specs.Held.{first};
 ghost use Rattle.record.specs.Owned.{LeavesOwner};
+ghost use Rattle.calls.specs.AnyOrder.{AdvancesAgree};
 ghost use Rattle.calls.specs.declared.parts.Denial.{Denial as Reason};
 ghost use Rattle.calls.specs.Calls.{Loads, Begins, Abandons, report_of};
 ghost use Rattle.calls.specs.Meant.{idle, recording};
@@ -19,10 +20,11 @@ use std::alloc::{AllocError, Global};
 
 impl Engine {
     // An idle engine that holds the sheet `var=a 0 0`, `stmt=empty`, `run=0`. Nothing allocates after this.
-    // Every run of it, and of any other engine, keeps the law of runs.
+    // Every run of it, and of any other engine, keeps the law of runs; and an engine that visits in another order would record the same and answer alike.
     pub fn new(heap: Global) -> Result<Engine, AllocError>
         ensures holds { IfOk result (λ e. meant e ≡ record { sheet = first; standing = idle }) }
         ensures runs { LawOfRuns }
+        ensures order { AdvancesAgree }
     {
         let loader = Loader::new(heap)?;
         let settler = Settler::new(heap)?;

@@ -6,11 +6,11 @@ use Rattle.sheet.specs.Content.{Content}
 use Rattle.sheet.specs.Limits.{Limits}
 use Rattle.feed.specs.Readings.{SameReadings}
 use Rattle.meaning.specs.declared.parts.Stop.{Stop}
-use Rattle.meaning.specs.Intervals.{Setting, under}
+use Rattle.meaning.specs.Intervals.{Setting, under, width}
 use Rattle.meaning.specs.Work.{Work, Outcome}
 use Rattle.meaning.specs.Passes.{Settles}
 use Rattle.meaning.specs.Visiting.{Visits, SettlesAnyhow, Visiting, in_passes, in_any_order, SettlesBy}
-use Rattle.meaning.specs.Runs.{Step, stopped, recorded, finished, StepsBy, OpenBy, start, onward, FinishedBy, finish, StoppedBy, stop, RecordBy, open_record, finished_record}
+use Rattle.meaning.specs.Runs.{first_work, step_of, Step, stopped, recorded, finished, StepsBy, OpenBy, start, onward, FinishedBy, finish, StoppedBy, stop, RecordBy, open_record, finished_record}
 use Rattle.meaning.specs.AnyOrder.{EndedBy, has_finished, has_stopped, SameVerdict, both_finished, both_undetermined, both_broken, OrderMakesNoDifference}
 use Rattle.meaning.proofs.Lists.{longer}
 use Rattle.meaning.proofs.Grown.{settles_total}
@@ -19,7 +19,7 @@ use Rattle.meaning.proofs.Fuel.{roomy_kept}
 use Rattle.meaning.proofs.AnyVisits.{visits_move, passes_anyhow}
 use Rattle.meaning.proofs.Starts.{Start}
 use Rattle.meaning.proofs.SameRests.{starts_same}
-use Rattle.meaning.proofs.OrderLaw.{MeetSteps, meet_finished, meet_undetermined, meet_broken, not_finished_recorded, not_stopped_recorded, not_finished_stopped, not_stopped_finished, same_outcome, Together, meet_at, steps_at, together, same_more}
+use Rattle.meaning.proofs.OrderLaw.{MeetSteps, meet_recorded, meet_finished, meet_undetermined, meet_broken, not_finished_recorded, not_stopped_recorded, not_finished_stopped, not_stopped_finished, same_outcome, Together, meet_at, steps_at, together, same_more}
 
 same_readings : (f : ℕ → ℕ → Option ℤ) → SameReadings f f
 same_readings f x k = refl
@@ -164,6 +164,57 @@ module _ (c : Content) (L : Limits c) (f g : ℕ → ℕ → Option ℤ) (R : Sa
   record_alike i j (finished_record a) (open_record v b) e = absurd (open_not_finished c L f g R (finished_any L i a) (open_any L j b) (sym e))
   record_alike i j (finished_record a) (finished_record b) e = (ended_alike c L f g R (last_step (has_finished (finished_any L i a))) (last_step (has_finished (finished_any L j b)))).equal
 
+-- ---- a run of either kind that comes to the same
+
+recorded_too : {S T : Setting} {x : List ℤ} {w : Work} {t : Step} → MeetSteps S T (recorded x w) t → (v : Work) × (t ≡ recorded x v)
+recorded_too (meet_recorded {v = v} P) = (v, refl)
+
+finished_too : {S T : Setting} {x : List ℤ} {t : Step} → MeetSteps S T (finished x) t → t ≡ finished x
+finished_too meet_finished = refl
+
+stopped_too : {S T : Setting} {p : Stop} {t : Step} → MeetSteps S T (stopped p) t → (q : Stop) × (t ≡ stopped q) × SameVerdict (Some p) (Some q)
+stopped_too meet_undetermined = (_, refl, both_undetermined)
+stopped_too (meet_broken {q = q} a b) = (q, refl, both_broken a b)
+
+settles_by : {S : Setting} → Limits S.sheet → (j : Visiting) (k : ℕ) {w : Work} → Start S w → (o : Outcome) × SettlesBy j S k w o
+settles_by {S} L in_passes k {w} A = settles_total S L k w A.tidy
+settles_by {S} L in_any_order k {w} A = let s : (o : Outcome) × Settles S k w o = settles_total S L k w A.tidy in (s.0, settles_any L in_passes A s.1)
+
+steps_by : {S : Setting} → Limits S.sheet → (j : Visiting) (k : ℕ) {w : Work} → Start S w → (t : Step) × StepsBy j S k w t
+steps_by {S} L j k A = let s = settles_by L j k A in (step_of (width S) s.0, record { outcome = s.0; settles = s.1; comes = refl })
+
+module _ (c : Content) (L : Limits c) (f g : ℕ → ℕ → Option ℤ) (R : SameReadings f g) (j : Visiting) where
+  -- the step that a run of the other kind takes where this one takes s
+  record StepToo (q : List (List ℤ)) (v : Work) (s : Step) : Type 0 where
+    step : Step
+    steps : StepsBy j (under c g) (length q) v step
+    meets : MeetSteps (under c f) (under c g) s step
+
+  step_too : {q : List (List ℤ)} {w v : Work} {s : Step} → OpenBy in_any_order (under c f) q w → OpenBy j (under c g) q v → StepsBy in_any_order (under c f) (length q) w s → StepToo q v s
+  step_too {q} {w} {v} o d s =
+      let m : Together (under c f) (under c g) q q w v = together c L f g R o (open_any L j d) refl in
+      let t : (t : Step) × StepsBy j (under c g) (length q) v t = steps_by L j (length q) m.paired.other in
+      record { step = t.0; steps = t.1; meets = steps_at c L f g R (length q) (length q) refl m.paired s (steps_any L j m.paired.other t.1) }
+
+  open_too : {q : List (List ℤ)} {w : Work} → OpenBy in_any_order (under c f) q w → (v : Work) × OpenBy j (under c g) q v
+  open_too start = (first_work c.run, start)
+  open_too (onward {r = r} {w = w} {u = u} {x = x} o s) =
+      let d = open_too o in
+      let t : StepToo r d.0 (recorded x u) = step_too o d.1 s in
+      let e = recorded_too t.meets in
+      (e.0, onward d.1 (subst (λ z. StepsBy j (under c g) (length r) d.0 z) e.1 t.steps))
+
+  ended_too : {q : List (List ℤ)} {x : Option Stop} → EndedBy in_any_order (under c f) q x → (y : Option Stop) × EndedBy j (under c g) q y × SameVerdict x y
+  ended_too (has_finished (finish {r = r} {x = x} o s)) =
+      let d = open_too o in
+      let t : StepToo r d.0 (finished x) = step_too o d.1 s in
+      (None, has_finished (finish d.1 (subst (λ z. StepsBy j (under c g) (length r) d.0 z) (finished_too t.meets) t.steps)), both_finished)
+  ended_too (has_stopped (stop {r = r} {s = p} o s)) =
+      let d = open_too o in
+      let t : StepToo r d.0 (stopped p) = step_too o d.1 s in
+      let e = stopped_too t.meets in
+      (Some e.0, has_stopped (stop d.1 (subst (λ z. StepsBy j (under c g) (length r) d.0 z) e.1 t.steps)), e.2)
+
 pub order_makes_no_difference : OrderMakesNoDifference
 order_makes_no_difference = record {
   passes = λ S L r w o p s. settles_any L in_passes (start_of L o) s;
@@ -177,6 +228,8 @@ order_makes_no_difference = record {
         λ o p s t. same_outcome (meet_at c L f g R (length q) m.paired s (subst (λ k. SettlesAnyhow (under c g) k v p) (sym e) t)),
       );
   records = λ c f g L R i j q r a b e. record_alike c L f g R i j a b e;
+  reaches = λ c f g L R i j q w o. open_too c L f g R j (open_any L i o);
+  reaches_end = λ c f g L R i j q x e. ended_too c L f g R j (ended_any L i e);
   verdicts = λ c f g L R i j q r x y a b. let m : Alike q r x y = ended_alike c L f g R (last_step (ended_any L i a)) (last_step (ended_any L j b)) in (m.equal, m.verdict);
   no_further = λ c f g L R i j q r x w a o. no_longer c L f g R (last_step (ended_any L i a)) (open_any L j o);
 }

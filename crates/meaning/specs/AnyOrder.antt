@@ -85,6 +85,11 @@ pub record OrderMakesNoDifference : Type 0 where
   -- along whole runs, in passes or in any order: equal counts, equal records
   pub records : (c : Content) (f g : ℕ → ℕ → Option ℤ) → Limits c → SameReadings f g
       → (i j : Visiting) (q r : List (List ℤ)) → RecordBy i (under c f) q → RecordBy j (under c g) r → length q ≡ length r → q ≡ r
+  -- what one run comes to, there is one of either kind that comes to it too
+  pub reaches : (c : Content) (f g : ℕ → ℕ → Option ℤ) → Limits c → SameReadings f g
+      → (i j : Visiting) (q : List (List ℤ)) (w : Work) → OpenBy i (under c f) q w → (v : Work) × OpenBy j (under c g) q v
+  pub reaches_end : (c : Content) (f g : ℕ → ℕ → Option ℤ) → Limits c → SameReadings f g
+      → (i j : Visiting) (q : List (List ℤ)) (x : Option Stop) → EndedBy i (under c f) q x → (y : Option Stop) × EndedBy j (under c g) q y × SameVerdict x y
   -- where one run has ended, each other that has ended has the same record and a verdict of the same kind
   pub verdicts : (c : Content) (f g : ℕ → ℕ → Option ℤ) → Limits c → SameReadings f g
       → (i j : Visiting) (q r : List (List ℤ)) (x y : Option Stop) → EndedBy i (under c f) q x → EndedBy j (under c g) r y → (q ≡ r) × SameVerdict x y

@@ -1,4 +1,5 @@
--- The law of runs is proved from what the calls promise.
+-- The law of runs is proved from what the calls promise, and the law of advances from that of settling.
+use Rattle.calls.proofs.Advances.{advances_agree}
 use Rattle.engine.proofs.Runs.{law_of_runs}
 use Rattle.engine.proofs.engine.Engine.new.Goals as goal
 
@@ -10,3 +11,12 @@ returns-in_err-settler-clause-runs c = law_of_runs
 
 pub returns-clause-runs : goal.returns-clause-runs
 returns-clause-runs c = law_of_runs
+
+pub returns-in_err-loader-clause-order : goal.returns-in_err-loader-clause-order
+returns-in_err-loader-clause-order c = advances_agree
+
+pub returns-in_err-settler-clause-order : goal.returns-in_err-settler-clause-order
+returns-in_err-settler-clause-order c = advances_agree
+
+pub returns-clause-order : goal.returns-clause-order
+returns-clause-order c = advances_agree
