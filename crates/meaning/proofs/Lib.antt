@@ -1,5 +1,5 @@
--- Lists and tests; what a duty asks; that each step keeps an explanation (soundness); what a work at rest says (exactness);
--- the order that every work keeps and the measure that falls; and the laws.
+-- Lists and tests; what a duty asks; what is granted at places, that visits keep a work placed in it, and that an interval grants what holds of it (soundness);
+-- what a work at rest says (exactness); the order that every work keeps and the measure that falls; and the laws.
 pub mod Lists
 pub mod Tests
 pub mod Owed
@@ -8,10 +8,7 @@ pub mod Grants
 pub mod PlacedEffects
 pub mod PlacedVisits
 pub mod Known
-pub mod Explained
-pub mod Opened
-pub mod Sound
-pub mod Passed
+pub mod IntervalGrants
 pub mod Quiet
 pub mod Rest
 pub mod Fall

@@ -1,5 +1,5 @@
 -- What a statement, perhaps with a number, asks of the piece from state i to state j; and that one without a number asks what it means.
-use Rattle.std.proofs.Common.{◌≡◌, ℕ, zero, suc, ◌+◌, ◌<◌, ◌≤◌, ◌≢◌, ◌↔◌, ℤ, pos, negsuc, Some, None, Option, sym, refl, subst}
+use Rattle.std.proofs.Common.{◌≡◌, ℕ, zero, suc, ◌+◌, ◌<◌, ◌≤◌, ◌≢◌, ◌↔◌, ℤ, pos, negsuc, Some, None, Option, sym, refl, subst, subst₂}
 use Rattle.sheet.specs.declared.parts.Statement.{Statement}
 use Rattle.sheet.specs.declared.parts.Statement.TheVariants.{True, False, Empty, More, Is, And, If, Next, Always, Halt, Len, Gets, Chop, For, While, Request}
 use Rattle.meaning.specs.declared.parts.Duty.{Duty}
@@ -145,3 +145,11 @@ module _ {S : Setting} {σ : ℕ → ℕ → ℤ} {i j : ℕ} where
 
   pub gets_value_inv : {x e : ℕ} {v : ℤ} → Owed S σ i j (Gets x e) (Some v) → σ i x ≡ v
   gets_value_inv (gets_value h) = h
+
+  -- what is owed under an equal statement is owed
+  pub due_as : (s : ℕ) {st : Statement} {o : Option ℤ} → statement_at S s ≡ st → Owed S σ i j st o → Owed S σ i j (statement_at S s) o
+  due_as s {o = o} a h = subst (λ z. Owed S σ i j z o) (sym a) h
+
+  -- and so is what a duty with an equal statement and number asks
+  pub due_self : (d : Duty) {st : Statement} {o : Option ℤ} → statement_at S d.statement ≡ st → d.number ≡ o → Owed S σ i j st o → Due S σ i j d
+  due_self d a c h = subst₂ (λ z y. Owed S σ i j z y) (sym a) (sym c) h
