@@ -9,7 +9,7 @@ use Rattle.meaning.specs.declared.parts.Span.{Span}
 use Rattle.meaning.specs.declared.parts.Stop.TheVariants.{Contradiction}
 use Rattle.meaning.specs.Intervals.{Setting, width, statement_at, fits}
 use Rattle.meaning.specs.Work.{Work, Outcome, stops, goes, plain}
-use Rattle.meaning.specs.Passes.{Settles}
+use Rattle.meaning.specs.Visiting.{SettlesAnyhow}
 use Rattle.meaning.specs.Runs.{whole_span, first_work, next_work}
 use Rattle.meaning.specs.Order.{◌∈◌, here, there}
 use Rattle.meaning.specs.AnyOrder.{opened_renamed}
@@ -21,9 +21,6 @@ use Rattle.meaning.proofs.Grants.{OuterBelow, DutyPlaced, SpanPlaced, Placed}
 use Rattle.meaning.proofs.PlacedEffects.{FindsPlaces, finds_clash, finds}
 use Rattle.meaning.proofs.PlacedVisits.{anyhow_finds}
 use Rattle.meaning.proofs.IntervalGrants.{FollowsOn, holding, holding_lawful}
-use Rattle.meaning.proofs.Finish.{begins_tidy}
-use Rattle.meaning.proofs.Fuel.{begins_roomy}
-use Rattle.meaning.proofs.AnyVisits.{passes_anyhow}
 
 -- the interval σ, whose last state is m, grants the work of state k, at places of which that of the whole interval is m
 pub record Granted (S : Setting) (σ : ℕ → ℕ → ℤ) (m k : ℕ) (w : Work) : Type 0 where
@@ -93,12 +90,12 @@ module _ (S : Setting) (L : Limits S.sheet) {ρ σ : ℕ → ℕ → ℤ} {m : �
       placed = record { next_is = refl; values = λ x v e. absurd (none_some v e); ends = λ s. tt; spans = one_span; duties = one_duty; later = λ d q. elim q [ ]; besides = tt }
 
   -- what the work of a state settles to has places too
-  settles_finds : {k : ℕ} {w : Work} {o : Outcome} → Begins S ρ k w → (B : Fore S ρ σ m k w) → Settles S k w o → FindsPlaces (holding S σ k) B.granted.n B.granted.φ o
-  settles_finds {k} b B s = anyhow_finds (holding_lawful S L σ k (G.legal k B.within)) (passes_anyhow S L (begins_tidy S L b) (begins_roomy b) s) B.granted.placed
+  settles_finds : {k : ℕ} {w : Work} {o : Outcome} (B : Fore S ρ σ m k w) → SettlesAnyhow S k w o → FindsPlaces (holding S σ k) B.granted.n B.granted.φ o
+  settles_finds {k} B s = anyhow_finds (holding_lawful S L σ k (G.legal k B.within)) s B.granted.placed
 
   -- so the settled work is granted
-  settled : {k : ℕ} {w u : Work} → Begins S ρ k w → Fore S ρ σ m k w → Rows S ρ k w u → Granted S σ m k u
-  settled b B R = granted_of B.granted.first B.granted.whole (settles_finds b B R.settled)
+  settled : {k : ℕ} {w u : Work} → Fore S ρ σ m k w → Rows S ρ k w u → Granted S σ m k u
+  settled B R = granted_of B.granted.first B.granted.whole (settles_finds B R.settled)
 
   -- and its numbers are those of the interval
   agrees : {k : ℕ} {w u : Work} → Fore S ρ σ m k w → Granted S σ m k u → Rows S ρ k w u → (i : ℕ) → i < suc k → (x : ℕ) → x < width S → ρ i x ≡ σ i x
@@ -109,9 +106,9 @@ module _ (S : Setting) (L : Limits S.sheet) {ρ σ : ℕ → ℕ → ℤ} {m : �
       by (no q) = B.same i (omega arith) x l
 
   -- one state on
-  fore_step : {k : ℕ} {w u : Work} → Begins S ρ k w → Fore S ρ σ m k w → Rows S ρ k w u → u.ends 0 ≡ On → Fore S ρ σ m (suc k) (next_work u)
-  fore_step {k} {w} {u} b B R e =
-      let X : Granted S σ m k u = settled b B R in
+  fore_step : {k : ℕ} {w u : Work} → Fore S ρ σ m k w → Rows S ρ k w u → u.ends 0 ≡ On → Fore S ρ σ m (suc k) (next_work u)
+  fore_step {k} {w} {u} B R e =
+      let X : Granted S σ m k u = settled B R in
       record {
         within = subst (λ j. k < j) X.whole (end_on e (X.placed.ends 0));
         same = agrees B X R;
@@ -121,16 +118,16 @@ module _ (S : Setting) (L : Limits S.sheet) {ρ σ : ℕ → ℕ → ℤ} {m : �
   -- so it is at each state that begins
   pub fore : {k : ℕ} {w : Work} → Begins S ρ k w → Fore S ρ σ m k w
   fore at_first = fore_start
-  fore (one_on b R e) = fore_step b (fore b) R e
+  fore (one_on b R e) = fore_step (fore b) R e
 
   -- after a contradiction no interval satisfies the sheet
-  pub contradiction_refutes : {k : ℕ} {w : Work} {place : ℕ} → Begins S ρ k w → Settles S k w (stops (Contradiction place)) → ⊥
-  contradiction_refutes b r = refuted (settles_finds b (fore b) r)
+  pub contradiction_refutes : {k : ℕ} {w : Work} {place : ℕ} → Begins S ρ k w → SettlesAnyhow S k w (stops (Contradiction place)) → ⊥
+  contradiction_refutes b r = refuted (settles_finds (fore b) r)
 
   -- a finished record is the whole of every satisfying interval
   pub ends_same : {k : ℕ} {w u : Work} → Ends S ρ k w u → (m ≡ k) × ((i : ℕ) → i ≤ m → (x : ℕ) → x < width S → ρ i x ≡ σ i x)
   ends_same {k} {w} {u} f =
       let B : Fore S ρ σ m k w = fore f.begun in
-      let X : Granted S σ m k u = settled f.begun B f.row in
+      let X : Granted S σ m k u = settled B f.row in
       let e : m ≡ k = sym X.whole ∙ end_last f.over (X.placed.ends 0) in
       (e, λ i h. agrees B X f.row i (omega arith))

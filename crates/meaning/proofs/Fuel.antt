@@ -13,11 +13,11 @@ use Rattle.meaning.specs.Work.{Work, Outcome, stops, goes, unchanged, changed, a
 use Rattle.meaning.specs.Effects.{most_duties, most_spans, with_value, with_end, with_duty, with_later, with_span, if_room, give_by, put_by}
 use Rattle.meaning.specs.Rules.{visit}
 use Rattle.meaning.specs.Passes.{visit_or, visit_duties, visit_duties_else, pass_fuel}
-use Rattle.meaning.specs.Runs.{kept_by, going_on, next_work}
+use Rattle.meaning.specs.Visiting.{in_passes}
+use Rattle.meaning.specs.Runs.{kept_by, going_on, next_work, recorded, Open, start, onward}
 use Rattle.meaning.specs.Laws.{Roomy, FuelSuffices}
 use Rattle.meaning.proofs.Lists.{longer, nth_within}
-use Rattle.meaning.proofs.Begun.{Begins, at_first, one_on}
-use Rattle.meaning.proofs.Records.{started}
+use Rattle.meaning.proofs.Steady.{Steady, steady}
 use Rattle.meaning.proofs.Kept.{OfWork, Kept, kept_visit, kept_pass, kept_settles}
 
 -- one more in a list that has room for it
@@ -80,9 +80,11 @@ pub next_roomy : (w : Work) → Roomy w → Roomy (next_work w)
 next_roomy w h = record { duties = h.later; later = omega arith; spans = omega (arith, going_few w.ends w.spans, h.spans) }
 
 -- each state of a run starts within the limits
-pub begins_roomy : {S : Setting} {ρ : ℕ → ℕ → ℤ} {k : ℕ} {w : Work} → Begins S ρ k w → Roomy w
-begins_roomy at_first = record { duties = omega arith; later = omega arith; spans = omega arith }
-begins_roomy {S} (one_on {k = k} {w = w} {u = u} b r o) = next_roomy u (kept_settles S Roomy (roomy_kept S) k w u false r.settled (begins_roomy b))
+open_roomy : {S : Setting} {r : List (List ℤ)} {w : Work} → Open S r w → Roomy w
+open_roomy start = record { duties = omega arith; later = omega arith; spans = omega arith }
+open_roomy {S} (onward {r = r} {w = w} {u = u} {x = x} o q) =
+    let T : Steady in_passes S (length r) w (recorded x u) = steady in_passes S (length r) w (recorded x u) q (λ h. h) in
+    subst Roomy T.after (next_roomy T.work (kept_settles S Roomy (roomy_kept S) (length r) w T.work false T.settled (open_roomy o)))
 
 -- two ways on that agree where the work keeps within its limits
 then_same : (o : Outcome) (f g : Work → Outcome) → OfWork Roomy o → ((u : Work) → Roomy u → f u ≡ g u) → and_then o f ≡ and_then o g
@@ -119,6 +121,6 @@ pub fuel_suffices : FuelSuffices
 fuel_suffices = record {
   never = λ S k o w h. never_out S k o pass_fuel 0 w (omega arith) fuel_is h;
   enough = λ S k extra w h. more_fuel S k extra pass_fuel 0 w (omega arith) fuel_is h;
-  started = λ S r w o. begins_roomy (started o).begun;
+  started = λ S r w o. open_roomy o;
   passed = λ S k w u c h e. subst (λ (z : Outcome). OfWork Roomy z) e (kept_pass S Roomy (roomy_kept S) k w h);
 }

@@ -41,10 +41,10 @@ module _ {S : Setting} (L : Limits S.sheet) where
   open_any i start = start
   open_any i (onward o s) = let a = open_any i o in onward a (steps_any i (start_of a) s)
 
-  finished_any : (i : Visiting) {r : List (List ℤ)} → FinishedBy i S r → FinishedBy in_any_order S r
+  pub finished_any : (i : Visiting) {r : List (List ℤ)} → FinishedBy i S r → FinishedBy in_any_order S r
   finished_any i (finish o s) = let a = open_any i o in finish a (steps_any i (start_of a) s)
 
-  stopped_any : (i : Visiting) {r : List (List ℤ)} {p : Stop} → StoppedBy i S r p → StoppedBy in_any_order S r p
+  pub stopped_any : (i : Visiting) {r : List (List ℤ)} {p : Stop} → StoppedBy i S r p → StoppedBy in_any_order S r p
   stopped_any i (stop o s) = let a = open_any i o in stop a (steps_any i (start_of a) s)
 
   ended_any : (i : Visiting) {r : List (List ℤ)} {x : Option Stop} → EndedBy i S r x → EndedBy in_any_order S r x

@@ -5,7 +5,8 @@ use lib.ListN.{get_or-append}
 use Rattle.value.proofs.Numbers.{Agrees}
 use Rattle.meaning.specs.Intervals.{Setting, width, value_in}
 use Rattle.meaning.specs.Work.{Work}
-use Rattle.meaning.specs.Runs.{state_of, Step, recorded, finished, Open, start, onward, Finished, finish}
+use Rattle.meaning.specs.Visiting.{in_any_order}
+use Rattle.meaning.specs.Runs.{state_of, Step, recorded, finished, OpenBy, start, onward, FinishedBy, finish}
 use Rattle.meaning.proofs.Lists.{longer}
 use Rattle.meaning.proofs.Begun.{Rows, Begins, at_first, one_on, Ends, begins_as}
 use Rattle.meaning.proofs.Steady.{Steady, steady, state_values, state_wide}
@@ -29,7 +30,7 @@ pub record CompleteRun (S : Setting) (r : List (List ℤ)) : Type 0 where
   pub ends : Ends S (value_in r) count work settled
 
 -- one state more
-module _ (S : Setting) (r : List (List ℤ)) (w : Work) (s : Step) (B : Started S r w) (T : Steady S (length r) w s) (x : List ℤ) (same-state : state_of (width S) T.work ≡ x) where
+module _ (S : Setting) (r : List (List ℤ)) (w : Work) (s : Step) (B : Started S r w) (T : Steady in_any_order S (length r) w s) (x : List ℤ) (same-state : state_of (width S) T.work ≡ x) where
   abbrev more : List (List ℤ)
   more = r ++ (x ∷ [])
 
@@ -50,10 +51,10 @@ module _ (S : Setting) (r : List (List ℤ)) (w : Work) (s : Step) (B : Started 
     values = λ y l. subst (λ z. Agrees (T.work.known y) (get_or z y (pos 0))) (same-state ∙ sym (get_d_end r x [])) (state_values (width S) T.work T.complete y l);
   }
 
-pub started : {S : Setting} {r : List (List ℤ)} {w : Work} → Open S r w → Started S r w
+pub started : {S : Setting} {r : List (List ℤ)} {w : Work} → OpenBy in_any_order S r w → Started S r w
 started start = record { wide = λ i h. absurd (omega arith); begun = at_first }
 started {S} (onward {r = r} {w = w} {u = u} {x = x} o q) =
-    let T : Steady S (length r) w (recorded x u) = steady S (length r) w (recorded x u) q (λ h. h) in
+    let T : Steady in_any_order S (length r) w (recorded x u) = steady in_any_order S (length r) w (recorded x u) q (λ h. h) in
     let B : Started S r w = started o in
     record {
       wide = more_wide S r w (recorded x u) B T x T.state;
@@ -62,9 +63,9 @@ started {S} (onward {r = r} {w = w} {u = u} {x = x} o q) =
           (one_on (before S r w (recorded x u) B T x T.state) (this S r w (recorded x u) B T x T.state) T.over);
     }
 
-pub completed : {S : Setting} {r : List (List ℤ)} → Finished S r → CompleteRun S r
+pub completed : {S : Setting} {r : List (List ℤ)} → FinishedBy in_any_order S r → CompleteRun S r
 completed {S} (finish {r = r} {w = w} {x = x} o q) =
-    let T : Steady S (length r) w (finished x) = steady S (length r) w (finished x) q (λ h. h) in
+    let T : Steady in_any_order S (length r) w (finished x) = steady in_any_order S (length r) w (finished x) q (λ h. h) in
     let B : Started S r w = started o in
     record {
       wide = more_wide S r w (finished x) B T x T.state;

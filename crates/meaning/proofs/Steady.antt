@@ -11,7 +11,8 @@ use Rattle.meaning.specs.declared.parts.Span.{Span}
 use Rattle.meaning.specs.Intervals.{Setting, width}
 use Rattle.meaning.specs.Work.{Work, Outcome, stops, goes}
 use Rattle.meaning.specs.Passes.{Settles}
-use Rattle.meaning.specs.Runs.{next_work, lowest_by, lowest_unknown, is_ended, all_ended, left_open, state_of, Step, stopped, recorded, finished, closed_by, judged_by, step_of, Steps}
+use Rattle.meaning.specs.Visiting.{SettlesAnyhow, comes_to_rest, Visiting, in_passes, in_any_order, SettlesBy}
+use Rattle.meaning.specs.Runs.{next_work, lowest_by, lowest_unknown, is_ended, all_ended, left_open, state_of, Step, stopped, recorded, finished, closed_by, judged_by, step_of, StepsBy}
 use Rattle.meaning.specs.Order.{◌∈◌, here, there, IsEnded}
 use Rattle.meaning.proofs.Lists.{none_some}
 use Rattle.meaning.proofs.Known.{IsGiven}
@@ -79,9 +80,9 @@ given_or None g = absurd g
 given_or (Some v) g = refl
 
 -- a step that does not stop, and the settled work that it comes from
-pub record Steady (S : Setting) (k : ℕ) (w : Work) (s : Step) : Type 0 where
+pub record Steady (i : Visiting) (S : Setting) (k : ℕ) (w : Work) (s : Step) : Type 0 where
   pub work : Work
-  pub settled : Settles S k w (goes work false)
+  pub settled : SettlesBy i S k w (goes work false)
   pub complete : Complete (width S) work
   pub over : work.ends 0 ≡ whole_end s
   pub state : state_of (width S) work ≡ state_in s
@@ -92,19 +93,27 @@ closed_of Unknown n w s e h = absurd (h (subst Stopping e tt))
 closed_of On n w s e h = (ap whole_end e, ap state_in e, ap (work_after (next_work w)) e)
 closed_of Last n w s e h = (ap whole_end e, ap state_in e, ap (work_after (next_work w)) e)
 
-steady_by : (S : Setting) (k : ℕ) (w : Work) (s : Step) (o : Outcome) → Settles S k w o → step_of (width S) o ≡ s → (Stopping s → ⊥) → Steady S k w s
-steady_by S k w s (stops p) q e h = absurd (h (subst Stopping e tt))
-steady_by S k w s (goes v c) q e h = by (left_open (width S) v) refl e
+-- a settled work is unchanged in the end
+anyhow_quiet : {S : Setting} {k : ℕ} {w v : Work} {c : Bool} → SettlesAnyhow S k w (goes v c) → SettlesAnyhow S k w (goes v false)
+anyhow_quiet (comes_to_rest a e) = comes_to_rest a e
+
+quiet_by : (i : Visiting) (S : Setting) (k : ℕ) (w v : Work) (c : Bool) → SettlesBy i S k w (goes v c) → SettlesBy i S k w (goes v false)
+quiet_by in_passes S k w v c q = subst (λ z. Settles S k w (goes v z)) (settles_quiet q) q
+quiet_by in_any_order S k w v c q = anyhow_quiet q
+
+steady_by : (i : Visiting) (S : Setting) (k : ℕ) (w : Work) (s : Step) (o : Outcome) → SettlesBy i S k w o → step_of (width S) o ≡ s → (Stopping s → ⊥) → Steady i S k w s
+steady_by i S k w s (stops p) q e h = absurd (h (subst Stopping e tt))
+steady_by i S k w s (goes v c) q e h = by (left_open (width S) v) refl e
   where
-    by : (l : Option LeftOpen) → left_open (width S) v ≡ l → judged_by l (width S) v ≡ s → Steady S k w s
+    by : (l : Option LeftOpen) → left_open (width S) v ≡ l → judged_by l (width S) v ≡ s → Steady i S k w s
     by (Some x) p e = absurd (h (subst Stopping e tt))
     by None p e =
         let r = closed_of (v.ends 0) (width S) v s e h in
-        record { work = v; settled = subst (λ z. Settles S k w (goes v z)) (settles_quiet q) q; complete = open_none (width S) v p; over = r.0; state = r.1; after = r.2 }
+        record { work = v; settled = quiet_by i S k w v c q; complete = open_none (width S) v p; over = r.0; state = r.1; after = r.2 }
 
 -- every step that does not stop is steady
-pub steady : (S : Setting) (k : ℕ) (w : Work) (s : Step) → Steps S k w s → (Stopping s → ⊥) → Steady S k w s
-steady S k w s q h = steady_by S k w s q.outcome q.settles q.comes h
+pub steady : (i : Visiting) (S : Setting) (k : ℕ) (w : Work) (s : Step) → StepsBy i S k w s → (Stopping s → ⊥) → Steady i S k w s
+steady i S k w s q h = steady_by i S k w s q.outcome q.settles q.comes h
 
 -- the recorded state is the settled one
 pub state_values : (n : ℕ) (w : Work) → Complete n w → (x : ℕ) → x < n → Agrees (w.known x) (get_or (state_of n w) x (pos 0))

@@ -17,7 +17,8 @@ use Rattle.meaning.specs.Intervals.{Setting, width, statement_at, fits, value_in
 use Rattle.meaning.specs.Holds.{Satisfies}
 use Rattle.meaning.specs.Work.{Work, Outcome, stops, goes}
 use Rattle.meaning.specs.Passes.{Settles}
-use Rattle.meaning.specs.Runs.{left_open, Step, stopped, recorded, finished, closed_by, judged_by, step_of, Steps, Stopped, stop}
+use Rattle.meaning.specs.Visiting.{SettlesAnyhow, in_passes, in_any_order}
+use Rattle.meaning.specs.Runs.{left_open, Step, stopped, recorded, finished, closed_by, judged_by, step_of, Steps, StoppedBy, stop}
 use Rattle.meaning.specs.Laws.{SettlingEnds, FinishedIsTheOne, OpenBeginsAll, ContradictionLeavesNone}
 use Rattle.meaning.specs.Order.{FitSays}
 use Rattle.meaning.proofs.Owed.{Owed, owed, holds}
@@ -25,9 +26,10 @@ use Rattle.meaning.proofs.Known.{IsGiven}
 use Rattle.meaning.proofs.Grown.{settles_total}
 use Rattle.meaning.proofs.Begun.{Rows, Begins, at_first, one_on}
 use Rattle.meaning.proofs.Fore.{Fore, Fits, fore, contradiction_refutes, ends_same}
-use Rattle.meaning.proofs.Finish.{begins_tidy, row_rests, ends_hold}
+use Rattle.meaning.proofs.Finish.{row_rests, ends_hold}
 use Rattle.meaning.proofs.One.{steps_one}
 use Rattle.meaning.proofs.Records.{Started, CompleteRun, started, completed}
+use Rattle.meaning.proofs.OrderRuns.{start_of, open_any, finished_any, stopped_any}
 
 -- every recorded number is in its range
 fits_of : (S : Setting) (x : ℕ) (q : Option ℤ) (r : ℤ) → FitSays S x q → Agrees q r → IsGiven q → fits S x r ≡ true
@@ -141,22 +143,22 @@ contradiction_of n p (goes w c) e = absurd (judged_no (left_open n w) n p w e)
 
 pub settling_ends : SettlingEnds
 settling_ends S L r w o =
-    let q : (x : Outcome) × Settles S (length r) w x = settles_total S L (length r) w (begins_tidy S L (started o).begun) in
+    let q : (x : Outcome) × Settles S (length r) w x = settles_total S L (length r) w (start_of L (open_any L in_passes o)).tidy in
     let t : Steps S (length r) w (step_of (width S) q.0) = record { outcome = q.0; settles = q.1; comes = refl } in
     (step_of (width S) q.0, t, λ s a. steps_one t a)
 
 pub finished_is_the_one : FinishedIsTheOne
-finished_is_the_one S L r f = let D : CompleteRun S r = completed f in (done_satisfies S L r D, λ l h. done_only S L r l D h)
+finished_is_the_one S L i r f = let D : CompleteRun S r = completed (finished_any L i f) in (done_satisfies S L r D, λ l h. done_only S L r l D h)
 
 pub open_begins_all : OpenBeginsAll
-open_begins_all S L r w o =
-    let B : Started S r w = started o in
+open_begins_all S L i r w o =
+    let B : Started S r w = started (open_any L i o) in
     (record { wide = B.wide; ranged = begins_legal S L B.begun }, λ l h. (open_longer S L r l w B h, open_begins S L r l w B h))
 
-contradicted : (S : Setting) → Limits S.sheet → {r : List (List ℤ)} {s : Stop} → Stopped S r s → (p : ℕ) → s ≡ Contradiction p → (l : List (List ℤ)) → Satisfies S l → ⊥
+contradicted : (S : Setting) → Limits S.sheet → {r : List (List ℤ)} {s : Stop} → StoppedBy in_any_order S r s → (p : ℕ) → s ≡ Contradiction p → (l : List (List ℤ)) → Satisfies S l → ⊥
 contradicted S L (stop {r = r} {w = w} o q) p e l h =
     contradiction_refutes S L (as_fits S L l h) (started o).begun
-    (subst (λ x. Settles S (length r) w x) (contradiction_of (width S) p q.outcome (q.comes ∙ ap stopped e)) q.settles)
+    (subst (λ x. SettlesAnyhow S (length r) w x) (contradiction_of (width S) p q.outcome (q.comes ∙ ap stopped e)) q.settles)
 
 pub contradiction_leaves_none : ContradictionLeavesNone
-contradiction_leaves_none S L r p s l h = contradicted S L s p refl l h
+contradiction_leaves_none S L i r p s l h = contradicted S L (stopped_any L i s) p refl l h

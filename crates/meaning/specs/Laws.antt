@@ -9,26 +9,27 @@ use Rattle.meaning.specs.Holds.{Satisfies}
 use Rattle.meaning.specs.Work.{Work, Outcome, goes}
 use Rattle.meaning.specs.Effects.{most_duties, most_spans}
 use Rattle.meaning.specs.Passes.{visit_duties, visit_duties_else, pass_fuel, pass}
-use Rattle.meaning.specs.Runs.{Step, Steps, Open, Finished, Stopped, Record}
+use Rattle.meaning.specs.Visiting.{Visiting}
+use Rattle.meaning.specs.Runs.{Step, Steps, Open, OpenBy, FinishedBy, StoppedBy, Record}
 
 -- a state settles, in one way: it comes to some step, and to no other
 abbrev pub SettlingEnds : Type 0
 SettlingEnds = (S : Setting) → Limits S.sheet → (r : List (List ℤ)) (w : Work) → Open S r w → (s : Step) × Steps S (length r) w s × ((t : Step) → Steps S (length r) w t → t ≡ s)
 
--- a finished record satisfies its sheet, and is the only interval that does
+-- a finished record satisfies its sheet, and is the only interval that does, in whichever order its states were visited
 abbrev pub FinishedIsTheOne : Type 0
-FinishedIsTheOne = (S : Setting) → Limits S.sheet → (r : List (List ℤ)) → Finished S r → Satisfies S r × ((l : List (List ℤ)) → Satisfies S l → l ≡ r)
+FinishedIsTheOne = (S : Setting) → Limits S.sheet → (i : Visiting) (r : List (List ℤ)) → FinishedBy i S r → Satisfies S r × ((l : List (List ℤ)) → Satisfies S l → l ≡ r)
 
 -- while a run goes on, its record consists of states of the sheet, and every interval that satisfies the sheet is longer and begins with it;
 -- so it is too where a run has met a stop, since its record is still that of a run that went on
 abbrev pub OpenBeginsAll : Type 0
 OpenBeginsAll =
-    (S : Setting) → Limits S.sheet → (r : List (List ℤ)) (w : Work) → Open S r w
+    (S : Setting) → Limits S.sheet → (i : Visiting) (r : List (List ℤ)) (w : Work) → OpenBy i S r w
     → States S r × ((l : List (List ℤ)) → Satisfies S l → (length r < length l) × (take (length r) l ≡ r))
 
--- after a contradiction no interval satisfies the sheet
+-- after a contradiction, in whichever order it was met, no interval satisfies the sheet
 abbrev pub ContradictionLeavesNone : Type 0
-ContradictionLeavesNone = (S : Setting) → Limits S.sheet → (r : List (List ℤ)) (p : ℕ) → Stopped S r (Contradiction p) → (l : List (List ℤ)) → Satisfies S l → ⊥
+ContradictionLeavesNone = (S : Setting) → Limits S.sheet → (i : Visiting) (r : List (List ℤ)) (p : ℕ) → StoppedBy i S r (Contradiction p) → (l : List (List ℤ)) → Satisfies S l → ⊥
 
 -- equal sheets and equal readings give equal records at equal counts
 abbrev pub EqualRunsAgree : Type 0
