@@ -4,6 +4,7 @@ use Rattle.sheet.specs.Content.{Content}
 use Rattle.sheet.specs.Limits.{Limits}
 use Rattle.feed.specs.Readings.{SameReadings}
 use Rattle.meaning.specs.Intervals.{under}
+use Rattle.meaning.specs.Visiting.{in_passes}
 use Rattle.meaning.specs.Runs.{Record}
 use Rattle.meaning.proofs.Theorems.{finished_is_the_one, open_begins_all, contradiction_leaves_none}
 use Rattle.meaning.proofs.Alike.{equal_runs_agree}
@@ -42,8 +43,8 @@ runs_agree s t f g p q e h a b n = equal_runs_agree s f g h p q a (subst (λ (c 
 
 pub law_of_runs : LawOfRuns
 law_of_runs = record {
-  finished = λ s f e q y r. finished_is_the_one (under s f) (run_limits r) q.states (moment_finished (under s f) (meant e) q.states y (run_moment r));
-  begins = λ s f e q y r. let o = moment_open (under s f) (meant e) q.states y (run_moment r) in open_begins_all (under s f) (run_limits r) q.states o.0 o.1;
-  none = λ s f e q x r. let o = moment_refuted (under s f) (meant e) q.states x (run_moment r) in contradiction_leaves_none (under s f) (run_limits r) q.states o.0 o.1;
+  finished = λ s f e q y r. finished_is_the_one (under s f) (run_limits r) in_passes q.states (moment_finished (under s f) (meant e) q.states y (run_moment r));
+  begins = λ s f e q y r. let o = moment_open (under s f) (meant e) q.states y (run_moment r) in open_begins_all (under s f) (run_limits r) in_passes q.states o.0 o.1;
+  none = λ s f e q x r. let o = moment_refuted (under s f) (meant e) q.states x (run_moment r) in contradiction_leaves_none (under s f) (run_limits r) in_passes q.states o.0 o.1;
   agree = λ s t f g d e p q x y z w h same a b. (ap length, runs_agree s t f g p.states q.states h same (run_record a) (run_record b));
 }

@@ -1,11 +1,11 @@
 -- Visits in any order keep a work in order and make it grow; and passes are visits in one of the orders.
-use Rattle.std.proofs.Common.{◌≡◌, ℕ, zero, suc, ◌+◌, ◌<◌, ◌≤◌, Bool, false, List, [], ◌∷◌, length, Some, None, Option, sym, refl, ap, ◌∙◌, subst, arith}
+use Rattle.std.proofs.Common.{◌≡◌, ℕ, zero, suc, ◌+◌, ◌<◌, ◌≤◌, Bool, true, false, List, [], ◌∷◌, length, Some, None, Option, sym, refl, ap, ◌∙◌, subst, arith}
 use Rattle.std.specs.List.{slice_get}
 use Rattle.sheet.specs.Limits.{Limits}
 use Rattle.meaning.specs.declared.parts.Duty.{Duty}
 use Rattle.meaning.specs.declared.parts.Span.{Span}
 use Rattle.meaning.specs.declared.parts.Stop.{Stop}
-use Rattle.meaning.specs.Intervals.{Setting, statement_at}
+use Rattle.meaning.specs.Intervals.{Setting, width, statement_at}
 use Rattle.meaning.specs.Work.{Work, Outcome, stops, goes, unchanged, also, and_then}
 use Rattle.meaning.specs.Effects.{most_duties}
 use Rattle.meaning.specs.Passes.{visit_or, visit_duties, visit_spans, pass_fuel, pass, Settles, rests, breaks, again}
@@ -14,7 +14,8 @@ use Rattle.meaning.specs.Laws.{Roomy}
 use Rattle.meaning.specs.Order.{◌∈◌, here, there, Tidy}
 use Rattle.meaning.proofs.Lists.{nth_in, nth_within}
 use Rattle.meaning.proofs.Known.{statement_with_ok}
-use Rattle.meaning.proofs.Rest.{Rest, pass_rests}
+use Rattle.meaning.proofs.Rest.{Rest, rule_rests, opened_rests, pass_rests}
+use Rattle.meaning.proofs.Fall.{left}
 use Rattle.meaning.proofs.Moves.{Grows, grows_refl, grows_trans, Moves, Any}
 use Rattle.meaning.proofs.Grown.{Resting, rule_moves, opened_moves, grown_of}
 use Rattle.meaning.proofs.Kept.{kept_visits}
@@ -64,6 +65,11 @@ module _ {S : Setting} {k : ℕ} where
   stop_of : {w : Work} {s : Stop} → Leads S k w (stops s) → SettlesAnyhow S k w (stops s)
   stop_of (leads_stop a v) = meets_stop a v
 
+-- a visit that changes nothing leaves the work
+pub visit_same : {S : Setting} {k : ℕ} {u v : Work} → OneVisit S k u (goes v false) → v ≡ u
+visit_same {S} {k} {u} {v} (to_duty d q e) = sym (rule_rests S k d u (statement_at S d.statement) d.number v e).0
+visit_same {u = u} {v = v} (to_span t q e) = sym (opened_rests u t.serial t.opening v e).0
+
 module _ (S : Setting) (L : Limits S.sheet) where
   one_visit_moves : {k : ℕ} {w : Work} {o : Outcome} → Tidy S w → OneVisit S k w o → Moves S w Any o
   one_visit_moves {k} {w} t (to_duty d q e) =
@@ -73,6 +79,10 @@ module _ (S : Setting) (L : Limits S.sheet) where
   pub visits_move : {k : ℕ} {w u : Work} → Tidy S w → Visits S k w u → Grows w u × Tidy S u
   visits_move {w = w} t no_visit = (grows_refl w, t)
   visits_move t (one_more a v) = let r = visits_move t a in let m = grown_of S L (one_visit_moves r.1 v) in (grows_trans r.0 m.0, m.1)
+
+  -- a visit that changes something lowers the measure
+  pub visit_falls : {k : ℕ} {u v : Work} → Tidy S u → OneVisit S k u (goes v true) → left (width S) v < left (width S) u
+  visit_falls t v = (grown_of S L (one_visit_moves t v)).2.lt refl
 
   -- a work that visits bring to rest is settled
   pub anyhow_rests : {k : ℕ} {w u : Work} → Tidy S w → SettlesAnyhow S k w (goes u false) → Resting S k w u

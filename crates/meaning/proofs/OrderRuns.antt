@@ -13,10 +13,11 @@ use Rattle.meaning.specs.Visiting.{Visits, SettlesAnyhow, Visiting, in_passes, i
 use Rattle.meaning.specs.Runs.{first_work, step_of, Step, stopped, recorded, finished, StepsBy, OpenBy, start, onward, FinishedBy, finish, StoppedBy, stop, RecordBy, open_record, finished_record}
 use Rattle.meaning.specs.AnyOrder.{EndedBy, has_finished, has_stopped, SameVerdict, both_finished, both_undetermined, both_broken, OrderMakesNoDifference}
 use Rattle.meaning.proofs.Lists.{longer}
+use Rattle.meaning.proofs.Fall.{left}
 use Rattle.meaning.proofs.Grown.{settles_total}
 use Rattle.meaning.proofs.Kept.{kept_visits}
 use Rattle.meaning.proofs.Fuel.{roomy_kept}
-use Rattle.meaning.proofs.AnyVisits.{visits_move, passes_anyhow}
+use Rattle.meaning.proofs.AnyVisits.{visits_move, visit_same, visit_falls, passes_anyhow}
 use Rattle.meaning.proofs.Starts.{Start}
 use Rattle.meaning.proofs.SameRests.{starts_same}
 use Rattle.meaning.proofs.OrderLaw.{MeetSteps, meet_recorded, meet_finished, meet_undetermined, meet_broken, not_finished_recorded, not_stopped_recorded, not_finished_stopped, not_stopped_finished, same_outcome, Together, meet_at, steps_at, together, same_more}
@@ -220,6 +221,7 @@ order_makes_no_difference = record {
   passes = λ S L r w o p s. settles_any L in_passes (start_of L o) s;
   engines = λ S L r w o. open_any L in_passes o;
   ends = λ S L r w u o a. comes_to_an_end L o a;
+  falls = λ S L r w o. (left (width S), λ u v a. (visit_same, visit_falls S L (visits_move S L (start_of L o).tidy a).1));
   states = λ c f g L R q r w v a b e.
       let m : Together (under c f) (under c g) q r w v = together c L f g R a b e in
       (

@@ -113,7 +113,7 @@ hand_rests u Unknown g = says u _ _ _ (λ _. ((λ e. absurd (unknown_on e)), (λ
 hand_rests u On g = says u _ _ _ (λ h. ((λ _. h), (λ e. absurd (on_last e)))) (put_rests g.by On g.follower.span u)
 hand_rests u Last g = says u _ _ _ (λ h. ((λ e. absurd (on_last (sym e))), (λ _. h))) (add_rests g.follower u)
 
-opened_rests : (w : Work) (s : ℕ) (q : Option Opening) → Rests w (visit_opened q s w) (SpanRest w s q)
+pub opened_rests : (w : Work) (s : ℕ) (q : Option Opening) → Rests w (visit_opened q s w) (SpanRest w s q)
 opened_rests w s None = quiet w
 opened_rests w s (Some g) =
     says w _ _ _ (λ h. (h.1.0, h.1.1, h.0))

@@ -1,5 +1,5 @@
 -- The order in which a state's work is visited makes no difference: in what two orders may differ, and the law that they differ in nothing else. Assumes nothing.
-use Rattle.std.specs.Prelude.{◌≡◌, ℕ, ◌<◌, ◌≤◌, false, List, map, length, ℤ, Some, None, Option, IsPermutation}
+use Rattle.std.specs.Prelude.{◌≡◌, ℕ, ◌<◌, ◌≤◌, true, false, List, map, length, ℤ, Some, None, Option, IsPermutation}
 use Rattle.sheet.specs.Content.{Content}
 use Rattle.sheet.specs.Limits.{Limits}
 use Rattle.feed.specs.Readings.{SameReadings}
@@ -12,9 +12,9 @@ use Rattle.meaning.specs.declared.parts.Stop.TheVariants.{Contradiction, Undeter
 use Rattle.meaning.specs.Intervals.{Setting, under}
 use Rattle.meaning.specs.Work.{Work, Outcome, stops, goes}
 use Rattle.meaning.specs.Passes.{Settles}
-use Rattle.meaning.specs.Visiting.{Visits, SettlesAnyhow, Visiting, in_any_order}
+use Rattle.meaning.specs.Visiting.{OneVisit, Visits, SettlesAnyhow, Visiting, in_any_order}
 use Rattle.meaning.specs.Runs.{next_work, left_open, Open, OpenBy, FinishedBy, StoppedBy, RecordBy}
-use Rattle.meaning.specs.Order.{Lives}
+use Rattle.meaning.specs.Members.{Lives}
 
 -- a duty whose span has another serial
 abbrev pub duty_renamed : (ℕ → ℕ) → Duty → Duty
@@ -77,6 +77,9 @@ pub record OrderMakesNoDifference : Type 0 where
   pub engines : (S : Setting) → Limits S.sheet → (r : List (List ℤ)) (w : Work) → Open S r w → OpenBy in_any_order S r w
   -- whatever has been visited so far, and in whichever order, there are visits that bring the state to an outcome
   pub ends : (S : Setting) → Limits S.sheet → (r : List (List ℤ)) (w u : Work) → OpenBy in_any_order S r w → Visits S (length r) w u → (o : Outcome) × SettlesAnyhow S (length r) u o
+  -- and none changes it for ever: a visit that is not said to change anything changes nothing, and each other lowers a number of what is left to find out
+  pub falls : (S : Setting) → Limits S.sheet → (r : List (List ℤ)) (w : Work) → OpenBy in_any_order S r w
+      → (left : Work → ℕ) × ((u v : Work) → Visits S (length r) w u → (OneVisit S (length r) u (goes v false) → v ≡ u) × (OneVisit S (length r) u (goes v true) → left v < left u))
   -- of two runs of equal sheets under equal readings, each visited in an order of its own: at equal counts the records are equal, the next
   -- states start with works that are the same but for order, and come to the same outcome
   pub states : (c : Content) (f g : ℕ → ℕ → Option ℤ) → Limits c → SameReadings f g

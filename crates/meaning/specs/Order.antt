@@ -8,24 +8,13 @@ use Rattle.meaning.specs.declared.parts.Opening.{Opening}
 use Rattle.meaning.specs.declared.parts.Span.{Span}
 use Rattle.meaning.specs.Intervals.{Setting, fits}
 use Rattle.meaning.specs.Work.{Work, plain}
-
-infix 40 ◌∈◌
--- d is in the list
-pub data ◌∈◌ {A : Type 0} (d : A) : List A → Type 0 where
-  here : {x : A} {l : List A} → d ≡ x → d ∈ (x ∷ l)
-  there : {x : A} {l : List A} → d ∈ l → d ∈ (x ∷ l)
+pub use Rattle.meaning.specs.Members.{◌∈◌, here, there, Lives}
 
 -- the end c is e, if e is known
 abbrev pub EndIs : End → End → Type 0
 EndIs c Unknown = Unit {0}
 EndIs c On = c ≡ On
 EndIs c Last = c ≡ Last
-
--- a span with the serial s is in the list
-pub record Lives (l : List Span) (s : ℕ) : Type 0 where
-  pub span : Span
-  pub inside : span ∈ l
-  pub named : span.serial ≡ s
 
 -- a known number is in its range
 abbrev pub FitSays : Setting → ℕ → Option ℤ → Type 0

@@ -7,7 +7,7 @@ use Rattle.meaning.specs.Intervals.{Setting}
 use Rattle.meaning.specs.Work.{Work, Outcome, stops, goes, unchanged}
 use Rattle.meaning.specs.Rules.{visit, visit_span}
 use Rattle.meaning.specs.Passes.{pass, Settles}
-use Rattle.meaning.specs.Order.{◌∈◌}
+use Rattle.meaning.specs.Members.{◌∈◌}
 
 -- one visit, to any duty or span that is there, and what it comes to
 pub data OneVisit (S : Setting) (k : ℕ) (w : Work) (o : Outcome) : Type 0 where
