@@ -1,5 +1,5 @@
 -- A finished record satisfies the statement that was run.
-use Rattle.std.proofs.Common.{◌≡◌, ℕ, zero, suc, ◌<◌, ◌≤◌, false, [], ◌∷◌, ℤ, Some, None, Option, sym, refl, ap, ◌∙◌, subst, subst₂, arith}
+use Rattle.std.proofs.Common.{◌≡◌, ℕ, zero, suc, ◌<◌, ◌≤◌, [], ◌∷◌, ℤ, Some, None, Option, sym, refl, ap, ◌∙◌, subst, subst₂, arith}
 use Rattle.std.proofs.lemmas.Bool.{both_ways}
 use Rattle.sheet.specs.Limits.{Limits}
 use Rattle.value.specs.declared.parts.End.{End}
@@ -8,7 +8,7 @@ use Rattle.meaning.specs.declared.parts.Duty.{Duty}
 use Rattle.meaning.specs.declared.parts.Opening.{Opening}
 use Rattle.meaning.specs.declared.parts.Span.{Span}
 use Rattle.meaning.specs.Intervals.{Setting, statement_at}
-use Rattle.meaning.specs.Work.{Work, goes, plain}
+use Rattle.meaning.specs.Work.{Work, plain}
 use Rattle.meaning.specs.Runs.{whole_span, first_work, going_on, next_work}
 use Rattle.meaning.specs.Order.{◌∈◌, here, there, Lives, Nested, RunsBody, Tidy}
 use Rattle.meaning.proofs.Tests.{on_last}

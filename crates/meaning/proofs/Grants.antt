@@ -1,6 +1,6 @@
 -- What may be granted at places: numbers, ends, duties and spans; when that is closed under the rules; and when a work is placed in it.
 -- A work at rest grants what it knows and holds, at its serials; an interval grants what holds of it, at its states.
-use Rattle.std.proofs.Common.{◌≡◌, ℕ, zero, suc, ◌<◌, ◌≤◌, ◌≢◌, Bool, true, false, cond, ◌&&◌, ltb, length, ℤ, pos, negsuc, Some, None, Option, ◌⊎◌}
+use Rattle.std.proofs.Common.{◌≡◌, ℕ, zero, suc, ◌<◌, ◌≢◌, Bool, true, false, cond, ◌&&◌, ltb, length, ℤ, pos, negsuc, Some, None, Option, ◌⊎◌}
 use Rattle.sheet.specs.declared.parts.Statement.{Statement}
 use Rattle.sheet.specs.declared.parts.Statement.TheVariants.{True, False, Empty, More, Is, And, If, Next, Always, Halt, Len, Gets, Chop, For, While, Request}
 use Rattle.value.specs.declared.parts.End.{End}

@@ -1,5 +1,5 @@
 -- What lies one to one in a rest has no more entries than it has, and so is never crowded.
-use Rattle.std.proofs.Common.{◌≡◌, ℕ, suc, ◌<◌, ◌≤◌, Bool, true, false, ◌&&◌, ltb, length, Some, None, Option, inl, inr, sym, refl, ap, ◌∙◌, subst, arith}
+use Rattle.std.proofs.Common.{◌≡◌, ℕ, suc, ◌<◌, ◌≤◌, Bool, true, false, ◌&&◌, ltb, length, Some, None, Option, inl, sym, refl, ap, ◌∙◌, subst, arith}
 use native.Mathlib.Decide.{ℕ_discrete}
 use Rattle.std.proofs.lemmas.Bool.{both_ways, and_from, lt-ltb}
 use Rattle.meaning.specs.declared.parts.Duty.{Duty}
@@ -15,7 +15,7 @@ use Rattle.meaning.proofs.Tests.{stands_has}
 use Rattle.meaning.proofs.Rest.{Rest}
 use Rattle.meaning.specs.AnyOrder.{duty_renamed, opening_renamed, opened_renamed, span_renamed}
 use Rattle.meaning.proofs.PartOf.{AsksAlike, KnowsAsMuch, AtRest, Neat, OneToOne, NoDoubles}
-use Rattle.meaning.proofs.Grants.{Grants, Opens, OuterBelow, DutyPlaced, Placed, RoomFor, Lawful}
+use Rattle.meaning.proofs.Grants.{Opens, OuterBelow, DutyPlaced, Placed, RoomFor, Lawful}
 use Rattle.meaning.proofs.PlacedEffects.{keep_duty, keep_later, new_placed}
 use Rattle.meaning.proofs.Distinct.{distinct_snoc, fits_in, not_has}
 use Rattle.meaning.proofs.Neat.{neat_new, neat_later, neat_same}

@@ -1,6 +1,5 @@
 -- The order of visits makes no difference: to one state, and along whole runs.
-use Rattle.std.proofs.Common.{◌≡◌, ℕ, suc, ◌<◌, ◌≤◌, false, List, [], ◌∷◌, ◌++◌, length, ℤ, Some, None, Option, sym, refl, ap, ◌∙◌, subst, subst₂, arith}
-use native.Mathlib.Decide.{ℕ_discrete}
+use Rattle.std.proofs.Common.{◌≡◌, ℕ, ◌<◌, false, List, [], ◌∷◌, ◌++◌, length, ℤ, Some, None, Option, sym, refl, ap, ◌∙◌, subst, subst₂, arith}
 use Rattle.sheet.specs.Content.{Content}
 use Rattle.sheet.specs.Limits.{Limits}
 use Rattle.feed.specs.Readings.{SameReadings}
@@ -13,23 +12,20 @@ use Rattle.meaning.specs.declared.parts.Stop.{Stop}
 use Rattle.meaning.specs.declared.parts.Stop.TheVariants.{Undetermined}
 use Rattle.meaning.specs.Intervals.{Setting, under, width}
 use Rattle.meaning.specs.Work.{Work, Outcome, stops, goes, plain}
-use Rattle.meaning.specs.Passes.{Settles}
-use Rattle.meaning.specs.Visiting.{Visits, SettlesAnyhow, comes_to_rest, meets_stop, Visiting, in_passes, in_any_order, SettlesBy}
-use Rattle.meaning.specs.Runs.{whole_span, first_work, left_open, state_of, next_work, Step, stopped, recorded, finished, closed_by, judged_by, step_of, StepsBy, OpenBy, start, onward, FinishedBy, finish, StoppedBy, stop, RecordBy, open_record, finished_record}
+use Rattle.meaning.specs.Visiting.{SettlesAnyhow, comes_to_rest, meets_stop, in_any_order}
+use Rattle.meaning.specs.Runs.{whole_span, first_work, left_open, state_of, next_work, Step, stopped, recorded, finished, closed_by, judged_by, step_of, StepsBy, OpenBy, start, onward}
 use Rattle.meaning.specs.Laws.{Roomy}
 use Rattle.meaning.specs.Order.{◌∈◌, here, there}
-use Rattle.meaning.specs.AnyOrder.{duty_renamed, span_renamed, SameButForOrder, Broken, SameOutcome, both_rest, neither_rests, EndedBy, has_finished, has_stopped, SameVerdict, both_finished, both_undetermined, both_broken, OrderMakesNoDifference}
+use Rattle.meaning.specs.AnyOrder.{duty_renamed, span_renamed, Broken, SameOutcome, both_rest, neither_rests}
 use Rattle.meaning.proofs.Lists.{longer}
-use Rattle.meaning.proofs.Grown.{settles_total}
-use Rattle.meaning.proofs.Kept.{kept_visits, kept_anyhow}
+use Rattle.meaning.proofs.Kept.{kept_anyhow}
 use Rattle.meaning.proofs.Fuel.{roomy_kept}
-use Rattle.meaning.proofs.AnyVisits.{visits_move, passes_anyhow}
 use Rattle.meaning.proofs.PartOf.{Part, AsksAlike, KnowsAsMuch, Distinct, Like, Within, within}
 use Rattle.meaning.proofs.RestGrants.{same_knows}
 use Rattle.meaning.proofs.PartStays.{part_stays}
-use Rattle.meaning.proofs.Starts.{Start, SettledFrom, settled_from, first_start}
+use Rattle.meaning.proofs.Starts.{Start, settled_from, first_start}
 use Rattle.meaning.proofs.InRest.{send, part_of_rest}
-use Rattle.meaning.proofs.SameRests.{Paired, paired_back, starts_same, Mutual, whole_same, open_same, state_same, rests_same, next_same, next_paired}
+use Rattle.meaning.proofs.SameRests.{Paired, paired_back, Mutual, whole_same, open_same, state_same, rests_same, next_same, next_paired}
 
 -- ---- one state
 

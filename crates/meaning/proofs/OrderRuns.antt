@@ -1,5 +1,5 @@
 -- The law that the order of visits makes no difference, for whole runs.
-use Rattle.std.proofs.Common.{◌≡◌, ℕ, suc, ◌<◌, ◌≤◌, List, [], ◌∷◌, ◌++◌, length, ℤ, Some, None, Option, ⊎_elim, sym, refl, subst, arith}
+use Rattle.std.proofs.Common.{◌≡◌, ℕ, ◌<◌, ◌≤◌, List, [], ◌∷◌, ◌++◌, length, ℤ, Some, None, Option, ⊎_elim, sym, refl, subst, arith}
 use native.Mathlib.Decide.{ℕ_discrete}
 use Rattle.std.proofs.lemmas.Bool.{cases_lt}
 use Rattle.sheet.specs.Content.{Content}
@@ -223,8 +223,7 @@ order_makes_no_difference = record {
   ends = λ S L r w u o a. comes_to_an_end L o a;
   falls = λ S L r w o. (left (width S), λ u v a. (visit_same, visit_falls S L (visits_move S L (start_of L o).tidy a).1));
   states = λ c f g L R q r w v a b e.
-      let m : Together (under c f) (under c g) q r w v = together c L f g R a b e in
-      (
+      let m : Together (under c f) (under c g) q r w v = together c L f g R a b e in (
         m.equal,
         starts_same m.paired,
         λ o p s t. same_outcome (meet_at c L f g R (length q) m.paired s (subst (λ k. SettlesAnyhow (under c g) k v p) (sym e) t)),

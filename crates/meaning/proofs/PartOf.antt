@@ -1,5 +1,5 @@
 -- When a work lies inside another, by a renaming of the serials of spans; and when two settings ask alike.
-use Rattle.std.proofs.Common.{◌≡◌, ℕ, ◌<◌, ◌≤◌, Bool, true, false, List, [], ◌∷◌, ℤ, Some, None, Option}
+use Rattle.std.proofs.Common.{◌≡◌, ℕ, ◌<◌, ◌≤◌, Bool, true, false, List, [], ◌∷◌, ℤ, Some, Option}
 use Rattle.value.specs.declared.parts.End.{End}
 use Rattle.value.specs.Values.{known_at}
 use Rattle.meaning.specs.declared.parts.Duty.{Duty}

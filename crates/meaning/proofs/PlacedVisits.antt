@@ -1,6 +1,5 @@
 -- Visits, in any order, keep a work placed in whatever is closed under the rules.
-use Rattle.std.proofs.Common.{◌≡◌, ℕ, zero, suc, ◌+◌, ◌<◌, ◌≤◌, ◌≢◌, cond, List, [], ◌∷◌, length, ℤ, pos, negsuc, Some, None, Option, Bool, false, sym, refl, subst, arith}
-use Rattle.std.specs.List.{slice_get}
+use Rattle.std.proofs.Common.{◌≡◌, ℕ, zero, suc, ◌<◌, ◌≢◌, cond, ℤ, pos, negsuc, Some, None, Option, Bool, false, sym, refl, subst}
 use Rattle.sheet.specs.declared.parts.Statement.{Statement}
 use Rattle.sheet.specs.declared.parts.Statement.TheVariants.{True, False, Empty, More, Is, And, If, Next, Always, Halt, Len, Gets, Chop, For, While, Request}
 use Rattle.value.specs.declared.parts.End.{End}
@@ -9,18 +8,16 @@ use Rattle.value.specs.Values.{truth}
 use Rattle.meaning.specs.declared.parts.Duty.{Duty}
 use Rattle.meaning.specs.declared.parts.Opening.{Opening}
 use Rattle.meaning.specs.declared.parts.Span.{Span}
-use Rattle.meaning.specs.declared.parts.Stop.TheVariants.{Crowded}
 use Rattle.meaning.specs.Intervals.{Setting, statement_at}
-use Rattle.meaning.specs.Work.{Work, Outcome, stops, goes, and_then, plain, numbered}
-use Rattle.meaning.specs.Effects.{most_duties, give, put, add, carry}
+use Rattle.meaning.specs.Work.{Work, Outcome, goes, and_then, plain, numbered}
+use Rattle.meaning.specs.Effects.{give, put, add, carry}
 use Rattle.meaning.specs.Rules.{known_for, once_known, when_on, chop_opening, for_opening, while_opening, halt_rule, len_rule, gets_rule, for_rule, while_rule, rule, visit, take_last, hand_on, visit_opened, visit_span}
 use Rattle.meaning.specs.Visiting.{OneVisit, to_duty, to_span, Visits, no_visit, one_more, SettlesAnyhow, comes_to_rest, meets_stop}
-use Rattle.meaning.specs.Order.{◌∈◌, here, there}
-use Rattle.meaning.proofs.Lists.{nth_in, nth_within}
+use Rattle.meaning.specs.Order.{◌∈◌}
 use Rattle.meaning.proofs.Tests.{truth_yes, truth_no, zero_or_not}
-use Rattle.meaning.specs.AnyOrder.{duty_renamed, opening_renamed, opened_renamed, span_renamed}
+use Rattle.meaning.specs.AnyOrder.{duty_renamed, opening_renamed, opened_renamed}
 use Rattle.meaning.proofs.Grants.{Grants, Shown, LenAsks, ForAsks, SpanAsks, Asks, OuterBelow, Placed, Lawful}
-use Rattle.meaning.proofs.PlacedEffects.{KeepsPlaces, kept, FindsPlaces, finds_full, finds_clash, finds, keep_then, finds_kept, stay, finds_after, finds_then, keep_give, keep_put, keep_add, keep_carry, finds_open}
+use Rattle.meaning.proofs.PlacedEffects.{KeepsPlaces, kept, FindsPlaces, finds_clash, finds, keep_then, finds_kept, stay, finds_after, keep_give, keep_put, keep_add, keep_carry, finds_open}
 
 finds_quietly : {G : Grants} {n : ℕ} {φ : ℕ → ℕ} {u : Work} {c : Bool} → FindsPlaces G n φ (goes u c) → FindsPlaces G n φ (goes u false)
 finds_quietly (finds m ψ l a Y) = finds m ψ l a Y

@@ -1,5 +1,5 @@
 -- What a work at rest grants, and that a work is placed in it exactly where it is a part of it.
-use Rattle.std.proofs.Common.{◌≡◌, ℕ, zero, suc, ◌<◌, true, List, ℤ, pos, negsuc, Some, None, Option, inl, sym, refl, ◌∙◌, subst, arith}
+use Rattle.std.proofs.Common.{◌≡◌, ℕ, zero, suc, ◌<◌, true, List, ℤ, pos, negsuc, Some, None, Option, sym, refl, ◌∙◌, subst}
 use Rattle.sheet.specs.declared.parts.Expression.{Expression}
 use Rattle.sheet.specs.declared.parts.Statement.{Statement}
 use Rattle.sheet.specs.declared.parts.Statement.TheVariants.{True, False, Empty, More, Is, And, If, Next, Always, Halt, Len, Gets, Chop, For, While, Request}
@@ -9,9 +9,8 @@ use Rattle.value.specs.Values.{known_at}
 use Rattle.meaning.specs.declared.parts.Duty.{Duty}
 use Rattle.meaning.specs.declared.parts.Opening.{Opening}
 use Rattle.meaning.specs.Intervals.{Setting, statement_at, fits}
-use Rattle.meaning.specs.Work.{Work, Outcome}
+use Rattle.meaning.specs.Work.{Work}
 use Rattle.meaning.specs.Order.{◌∈◌, EndIs, Lives, FitSays, Nested, Tidy, IsEnded}
-use Rattle.meaning.proofs.Lists.{some_injective}
 use Rattle.meaning.proofs.Tests.{Stands, on_last}
 use Rattle.meaning.proofs.Rest.{Demands, LenRest, ForRest, Rest, pass_rests}
 use Rattle.meaning.proofs.Later.{more_known}

@@ -9,7 +9,7 @@ use Rattle.meaning.specs.declared.parts.Opening.{Opening}
 use Rattle.meaning.specs.declared.parts.Span.{Span}
 use Rattle.meaning.specs.declared.parts.Stop.TheVariants.{Contradiction}
 use Rattle.meaning.specs.Intervals.{Setting, fits}
-use Rattle.meaning.specs.Work.{Work, Outcome, stops, goes, unchanged, changed, has_duty, has_opened}
+use Rattle.meaning.specs.Work.{Work, stops, goes, unchanged, changed, has_duty, has_opened}
 use Rattle.meaning.specs.Effects.{most_duties, most_spans, with_value, with_duty, with_later, with_span, if_room, give_by, put_by}
 use Rattle.meaning.specs.Passes.{pass}
 use Rattle.meaning.specs.Visiting.{SettlesAnyhow, comes_to_rest}
