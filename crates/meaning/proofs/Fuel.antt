@@ -19,53 +19,19 @@ use Rattle.meaning.specs.Laws.{Roomy, FuelSuffices}
 use Rattle.meaning.proofs.Lists.{longer, nth_within}
 use Rattle.meaning.proofs.Steady.{Steady, steady}
 use Rattle.meaning.proofs.Kept.{OfWork, Kept, kept_visit, kept_pass, kept_settles}
+use Rattle.meaning.proofs.Changes.{kept_by_changes}
 
--- one more in a list that has room for it
-one_more : {A : Type 0} (l : List A) (x : A) (n : ℕ) → ltb (length l) n ≡ true → length (l ++ (x ∷ [])) ≤ n
-one_more l x n h = omega (arith, longer l x, ltb-true (length l) n h)
-
-room_kept : (b : Bool) (w : Work) → (b ≡ true → Roomy w) → OfWork Roomy (if_room b w)
-room_kept true w h = h refl
-room_kept false w h = tt
-
-give_roomy : (S : Setting) (p : ℕ) (q : Option ℤ) (x : ℕ) (v : ℤ) (w : Work) → Roomy w → OfWork Roomy (give_by S p q x v w)
-give_roomy S p None x v w h =
-    cond_both (fits S x v) (changed (with_value x v w)) (stops (Contradiction p)) (OfWork Roomy)
-    (λ e. record { duties = h.duties; later = h.later; spans = h.spans }) (λ e. tt)
-give_roomy S p (Some u) x v w h = cond_both (same u v) (unchanged w) (stops (Contradiction p)) (OfWork Roomy) (λ e. h) (λ e. tt)
-
-end_roomy : (e : End) (s : ℕ) (w : Work) → Roomy w → Roomy (with_end e s w)
-end_roomy e s w h = record { duties = h.duties; later = h.later; spans = h.spans }
-
-put_roomy : (p : ℕ) (c e : End) (s : ℕ) (w : Work) → Roomy w → OfWork Roomy (put_by p c e s w)
-put_roomy p Unknown Unknown s w h = h
-put_roomy p Unknown On s w h = end_roomy On s w h
-put_roomy p Unknown Last s w h = end_roomy Last s w h
-put_roomy p On Unknown s w h = h
-put_roomy p On On s w h = h
-put_roomy p On Last s w h = tt
-put_roomy p Last Unknown s w h = h
-put_roomy p Last On s w h = tt
-put_roomy p Last Last s w h = h
+one_more : {A : Type 0} (l : List A) (x : A) (n : ℕ) → length l < n → length (l ++ (x ∷ [])) ≤ n
+one_more l x n h = omega (arith, longer l x, h)
 
 pub roomy_kept : (S : Setting) → Kept S Roomy
-roomy_kept S = record {
-  gives = λ p x v w h. give_roomy S p (w.known x) x v w h;
-  puts = λ p e s w h. put_roomy p (w.ends s) e s w h;
-  adds = λ d w h.
-      let room : Bool = ltb (length w.duties) most_duties in
-      cond_both (has_duty d w.duties) (unchanged w) (if_room room (with_duty d w)) (OfWork Roomy) (λ _. h)
-      (λ _. room_kept room (with_duty d w) (λ e. record { duties = one_more w.duties d most_duties e; later = h.later; spans = h.spans }));
-  carries = λ d w h.
-      let room : Bool = ltb (length w.later) most_duties in
-      cond_both (has_duty d w.later) (unchanged w) (if_room room (with_later d w)) (OfWork Roomy) (λ _. h)
-      (λ _. room_kept room (with_later d w) (λ e. record { duties = h.duties; later = one_more w.later d most_duties e; spans = h.spans }));
-  opens = λ g w h.
-      let a : Bool = ltb (length w.spans) most_spans in
-      let b : Bool = ltb (length w.duties) most_duties in
-      cond_both (has_opened g w.spans) (unchanged w) (if_room (a && b) (with_span g w)) (OfWork Roomy) (λ _. h)
-      (λ _. room_kept (a && b) (with_span g w) (λ e. record { duties = one_more w.duties _ most_duties (and_parts a b e).1; later = h.later; spans = one_more w.spans _ most_spans (and_parts a b e).0 }));
-}
+roomy_kept S = kept_by_changes (record {
+  value = λ x v w _ h. record { duties = h.duties; later = h.later; spans = h.spans };
+  ending = λ e s w _ h. record { duties = h.duties; later = h.later; spans = h.spans };
+  duty = λ d w _ l h. record { duties = one_more w.duties d most_duties l; later = h.later; spans = h.spans };
+  carried = λ d w _ l h. record { duties = h.duties; later = one_more w.later d most_duties l; spans = h.spans };
+  span = λ g w _ a b h. record { duties = one_more w.duties _ most_duties b; later = h.later; spans = one_more w.spans _ most_spans a };
+})
 
 going_few : (f : ℕ → End) (l : List Span) → length (going_on f l) ≤ length l
 going_few f [] = omega arith

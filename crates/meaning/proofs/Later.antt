@@ -19,7 +19,8 @@ use Rattle.meaning.specs.Order.{◌∈◌, IsEnded, Later}
 use Rattle.meaning.proofs.Lists.{∈_left, set_other, none_some, nth_in, in_nth}
 use Rattle.meaning.proofs.Tests.{unknown_on, unknown_last}
 use Rattle.meaning.proofs.Rest.{Shows}
-use Rattle.meaning.proofs.Kept.{OfWork, Kept}
+use Rattle.meaning.proofs.Kept.{Kept}
+use Rattle.meaning.proofs.Changes.{kept_by_changes}
 
 pub later_refl : (w : Work) → Later w w
 later_refl w = record { knowns = λ x v e. e; ends = λ s l h. refl; duties = λ i d e. e; carried = λ d q. q; spans = λ i t e. e; serials = omega arith }
@@ -65,10 +66,6 @@ module _ (S : Setting) (w : Work) where
     serials = h.serials;
   }
 
-  later_give : (p : ℕ) (q : Option ℤ) (x : ℕ) (v : ℤ) (u : Work) → u.known x ≡ q → Later w u → OfWork (Later w) (give_by S p q x v u)
-  later_give p None x v u n h = cond_both (fits S x v) (changed (with_value x v u)) (stops (Contradiction p)) (OfWork (Later w)) (λ e. later_value x v u n h) (λ e. tt)
-  later_give p (Some a) x v u n h = cond_both (same a v) (unchanged u) (stops (Contradiction p)) (OfWork (Later w)) (λ e. h) (λ e. tt)
-
   later_end : (e : End) (s : ℕ) (u : Work) → u.ends s ≡ Unknown → Later w u → Later w (with_end e s u)
   later_end e s u n h = record {
     knowns = h.knowns;
@@ -80,21 +77,6 @@ module _ (S : Setting) (w : Work) where
     spans = h.spans;
     serials = h.serials;
   }
-
-  later_put : (p : ℕ) (c e : End) (s : ℕ) (u : Work) → u.ends s ≡ c → Later w u → OfWork (Later w) (put_by p c e s u)
-  later_put p Unknown Unknown s u n h = h
-  later_put p Unknown On s u n h = later_end On s u n h
-  later_put p Unknown Last s u n h = later_end Last s u n h
-  later_put p On Unknown s u n h = h
-  later_put p On On s u n h = h
-  later_put p On Last s u n h = tt
-  later_put p Last Unknown s u n h = h
-  later_put p Last On s u n h = tt
-  later_put p Last Last s u n h = h
-
-  room_later : (b : Bool) (u : Work) → Later w u → OfWork (Later w) (if_room b u)
-  room_later true u h = h
-  room_later false u h = tt
 
   later_new : (g : Opening) (u : Work) → Later w u → Later w (with_span g u)
   later_new g u h = record {
@@ -108,21 +90,13 @@ module _ (S : Setting) (w : Work) where
 
   -- each visit keeps what is so of the works before it
   pub later_kept : Kept S (Later w)
-  later_kept = record {
-    gives = λ p x v u h. later_give p (u.known x) x v u refl h;
-    puts = λ p e s u h. later_put p (u.ends s) e s u refl h;
-    adds = λ d u h.
-        let room : Bool = ltb (length u.duties) most_duties in
-        cond_both (has_duty d u.duties) (unchanged u) (if_room room (with_duty d u)) (OfWork (Later w)) (λ _. h)
-        (λ _. room_later room (with_duty d u) (record { knowns = h.knowns; ends = h.ends; duties = λ i c e. nth_left u.duties d i c (h.duties i c e); carried = h.carried; spans = h.spans; serials = h.serials }));
-    carries = λ d u h.
-        let room : Bool = ltb (length u.later) most_duties in
-        cond_both (has_duty d u.later) (unchanged u) (if_room room (with_later d u)) (OfWork (Later w)) (λ _. h)
-        (λ _. room_later room (with_later d u) (record { knowns = h.knowns; ends = h.ends; duties = h.duties; carried = λ c q. ∈_left d (h.carried c q); spans = h.spans; serials = h.serials }));
-    opens = λ g u h.
-        let room : Bool = ltb (length u.spans) most_spans && ltb (length u.duties) most_duties in
-        cond_both (has_opened g u.spans) (unchanged u) (if_room room (with_span g u)) (OfWork (Later w)) (λ _. h) (λ _. room_later room (with_span g u) (later_new g u h));
-  }
+  later_kept = kept_by_changes (record {
+    value = λ x v u n h. later_value x v u n h;
+    ending = λ e s u n h. later_end e s u n h;
+    duty = λ d u _ _ h. record { knowns = h.knowns; ends = h.ends; duties = λ i c e. nth_left u.duties d i c (h.duties i c e); carried = h.carried; spans = h.spans; serials = h.serials };
+    carried = λ d u _ _ h. record { knowns = h.knowns; ends = h.ends; duties = h.duties; carried = λ c q. ∈_left d (h.carried c q); spans = h.spans; serials = h.serials };
+    span = λ g u _ _ _ h. later_new g u h;
+  })
 
 -- what is known of an end is known later too
 pub end_stays : {w u : Work} (s : ℕ) (c : End) → Later w u → s < w.next → w.ends s ≡ c → IsEnded c → u.ends s ≡ c

@@ -24,6 +24,7 @@ pub mod Records
 pub mod Theorems
 pub mod Alike
 pub mod Kept
+pub mod Changes
 pub mod AnyVisits
 pub mod Distinct
 pub mod Neat

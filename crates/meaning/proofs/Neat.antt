@@ -14,7 +14,8 @@ use Rattle.meaning.specs.Effects.{most_duties, most_spans, with_value, with_end,
 use Rattle.meaning.specs.Order.{◌∈◌}
 use Rattle.meaning.proofs.Lists.{all_snoc}
 use Rattle.meaning.proofs.Tests.{stands_has}
-use Rattle.meaning.proofs.Kept.{OfWork, Kept}
+use Rattle.meaning.proofs.Kept.{Kept}
+use Rattle.meaning.proofs.Changes.{kept_by_changes}
 use Rattle.meaning.proofs.PartOf.{Distinct, Neat}
 use Rattle.meaning.proofs.Distinct.{distinct_snoc, not_has}
 
@@ -56,38 +57,11 @@ neat_same w u N a b c = record {
   later = subst (λ (z : List Duty). Distinct z) (sym b) N.later;
 }
 
-give_neat : (S : Setting) (p : ℕ) (q : Option ℤ) (x : ℕ) (v : ℤ) (w : Work) → Neat w → OfWork Neat (give_by S p q x v w)
-give_neat S p None x v w h =
-    cond_both (fits S x v) (changed (with_value x v w)) (stops (Contradiction p)) (OfWork Neat) (λ e. neat_same w (with_value x v w) h refl refl refl) (λ e. tt)
-give_neat S p (Some u) x v w h = cond_both (same u v) (unchanged w) (stops (Contradiction p)) (OfWork Neat) (λ e. h) (λ e. tt)
-
-put_neat : (p : ℕ) (c e : End) (s : ℕ) (w : Work) → Neat w → OfWork Neat (put_by p c e s w)
-put_neat p Unknown Unknown s w h = h
-put_neat p Unknown On s w h = neat_same w (with_end On s w) h refl refl refl
-put_neat p Unknown Last s w h = neat_same w (with_end Last s w) h refl refl refl
-put_neat p On Unknown s w h = h
-put_neat p On On s w h = h
-put_neat p On Last s w h = tt
-put_neat p Last Unknown s w h = h
-put_neat p Last On s w h = tt
-put_neat p Last Last s w h = h
-
-room_neat : (b : Bool) (w : Work) → Neat w → OfWork Neat (if_room b w)
-room_neat true w h = h
-room_neat false w h = tt
-
 pub neat_kept : (S : Setting) → Kept S Neat
-neat_kept S = record {
-  gives = λ p x v w h. give_neat S p (w.known x) x v w h;
-  puts = λ p e s w h. put_neat p (w.ends s) e s w h;
-  adds = λ d w h.
-      cond_both (has_duty d w.duties) (unchanged w) (if_room (ltb (length w.duties) most_duties) (with_duty d w)) (OfWork Neat) (λ _. h)
-      (λ _. room_neat (ltb (length w.duties) most_duties) (with_duty d w) (neat_same w (with_duty d w) h refl refl refl));
-  carries = λ d w h.
-      cond_both (has_duty d w.later) (unchanged w) (if_room (ltb (length w.later) most_duties) (with_later d w)) (OfWork Neat) (λ _. h)
-      (λ e. room_neat (ltb (length w.later) most_duties) (with_later d w) (neat_later d w e h));
-  opens = λ g w h.
-      let room : Bool = ltb (length w.spans) most_spans && ltb (length w.duties) most_duties in
-      cond_both (has_opened g w.spans) (unchanged w) (if_room room (with_span g w)) (OfWork Neat) (λ _. h)
-      (λ e. room_neat room (with_span g w) (neat_new g w e h));
-}
+neat_kept S = kept_by_changes (record {
+  value = λ x v w _ h. neat_same w (with_value x v w) h refl refl refl;
+  ending = λ e s w _ h. neat_same w (with_end e s w) h refl refl refl;
+  duty = λ d w _ _ h. neat_same w (with_duty d w) h refl refl refl;
+  carried = λ d w n _ h. neat_later d w n h;
+  span = λ g w n _ _ h. neat_new g w n h;
+})

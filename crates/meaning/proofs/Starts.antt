@@ -17,7 +17,8 @@ use Rattle.meaning.specs.Runs.{whole_span, first_work, kept_by, going_on, next_w
 use Rattle.meaning.specs.Laws.{Roomy}
 use Rattle.meaning.specs.Order.{◌∈◌, here, there, Tidy}
 use Rattle.meaning.proofs.Lists.{all_snoc}
-use Rattle.meaning.proofs.Kept.{OfWork, Kept, kept_anyhow}
+use Rattle.meaning.proofs.Kept.{Kept, kept_anyhow}
+use Rattle.meaning.proofs.Changes.{kept_by_changes}
 use Rattle.meaning.proofs.Fuel.{roomy_kept, next_roomy}
 use Rattle.meaning.proofs.Begun.{Stays, going_in, stale}
 use Rattle.meaning.proofs.Grown.{Resting}
@@ -46,40 +47,14 @@ pub record Born (t : Span) : Type 0 where
 abbrev pub Since : Work → Work → Type 0
 Since w u = (t : Span) → t ∈ u.spans → (t ∈ w.spans) ⊎ Born t
 
-since_room : (w : Work) (b : Bool) (u : Work) → Since w u → OfWork (Since w) (if_room b u)
-since_room w true u h = h
-since_room w false u h = tt
-
-since_give : (w : Work) (S : Setting) (p : ℕ) (q : Option ℤ) (x : ℕ) (v : ℤ) (u : Work) → Since w u → OfWork (Since w) (give_by S p q x v u)
-since_give w S p None x v u h = cond_both (fits S x v) (changed (with_value x v u)) (stops (Contradiction p)) (OfWork (Since w)) (λ e. h) (λ e. tt)
-since_give w S p (Some a) x v u h = cond_both (same a v) (unchanged u) (stops (Contradiction p)) (OfWork (Since w)) (λ e. h) (λ e. tt)
-
-since_put : (w : Work) (p : ℕ) (c e : End) (s : ℕ) (u : Work) → Since w u → OfWork (Since w) (put_by p c e s u)
-since_put w p Unknown Unknown s u h = h
-since_put w p Unknown On s u h = h
-since_put w p Unknown Last s u h = h
-since_put w p On Unknown s u h = h
-since_put w p On On s u h = h
-since_put w p On Last s u h = tt
-since_put w p Last Unknown s u h = h
-since_put w p Last On s u h = tt
-since_put w p Last Last s u h = h
-
 since_kept : (S : Setting) (w : Work) → Kept S (Since w)
-since_kept S w = record {
-  gives = λ p x v u h. since_give w S p (u.known x) x v u h;
-  puts = λ p e s u h. since_put w p (u.ends s) e s u h;
-  adds = λ d u h.
-      cond_both (has_duty d u.duties) (unchanged u) (if_room (ltb (length u.duties) most_duties) (with_duty d u)) (OfWork (Since w)) (λ _. h)
-      (λ _. since_room w (ltb (length u.duties) most_duties) (with_duty d u) h);
-  carries = λ d u h.
-      cond_both (has_duty d u.later) (unchanged u) (if_room (ltb (length u.later) most_duties) (with_later d u)) (OfWork (Since w)) (λ _. h)
-      (λ _. since_room w (ltb (length u.later) most_duties) (with_later d u) h);
-  opens = λ g u h.
-      let room : Bool = ltb (length u.spans) most_spans && ltb (length u.duties) most_duties in
-      cond_both (has_opened g u.spans) (unchanged u) (if_room room (with_span g u)) (OfWork (Since w)) (λ _. h)
-      (λ _. since_room w room (with_span g u) (all_snoc (λ t. (t ∈ w.spans) ⊎ Born t) _ u.spans h (inr (record { newly = refl; how = g; opened = refl }))));
-}
+since_kept S w = kept_by_changes (record {
+  value = λ x v u _ h. h;
+  ending = λ e s u _ h. h;
+  duty = λ d u _ _ h. h;
+  carried = λ d u _ _ h. h;
+  span = λ g u _ _ _ h. all_snoc (λ t. (t ∈ w.spans) ⊎ Born t) _ u.spans h (inr (record { newly = refl; how = g; opened = refl }));
+})
 
 -- what a state that starts with w settles to, by visits in some order
 pub record SettledFrom (S : Setting) (k : ℕ) (w u : Work) : Type 0 where
