@@ -46,8 +46,8 @@ module _ {S : Setting} {k : ℕ} {G : Grants} (A : Lawful S k G) where
         by (no z) = subst (λ o. FindsPlaces G n φ o) (sym (truth_yes v a b z)) (h₁ z)
 
     -- a number that a placed work shows is one that is granted
-    told : (w : Work) (d : Duty) (e : ℕ) (v : ℤ) → Placed G n φ w → known_for S w d e ≡ Some v → Shown S G (φ d.span) e v
-    told w d e v X h = record { numbers = w.known; end = w.ends d.span; right = X.values; ending = X.ends d.span; gives = h }
+    shown : (w : Work) (d : Duty) (e : ℕ) (v : ℤ) → Placed G n φ w → known_for S w d e ≡ Some v → Shown S G (φ d.span) e v
+    shown w d e v X h = record { numbers = w.known; end = w.ends d.span; right = X.values; ending = X.ends d.span; gives = h }
 
     -- put on, then carry
     finds_on : (d c : Duty) (w : Work) → c.span < n → G.at (φ d.span) On × G.next (duty_renamed φ c) → Placed G n φ w → FindsPlaces G n φ (and_then (put d.statement On d.span w) (carry c))
@@ -72,31 +72,31 @@ module _ {S : Setting} {k : ℕ} {G : Grants} (A : Lawful S k G) where
     rule_finds w d False o X l a h = finds_clash h
     rule_finds w d Empty o X l a h = finds_last d w h X
     rule_finds w d More o X l a h = finds_kept (keep_put A d.statement On d.span w h X)
-    rule_finds w d (Is x e) o X l a h = finds_once (known_for S w d e) (give S d.statement x) w X (λ v q. finds_kept (keep_give A d.statement x v w (h v (told w d e v X q)) X))
+    rule_finds w d (Is x e) o X l a h = finds_once (known_for S w d e) (give S d.statement x) w X (λ v q. finds_kept (keep_give A d.statement x v w (h v (shown w d e v X q)) X))
     rule_finds w d (And p q) o X l a h = finds_kept (keep_then (add (plain q d.span)) (keep_add A (plain p d.span) w (l, h.0) X) (λ u Y. keep_add A (plain q d.span) u (l, h.1) Y))
     rule_finds w d (If e p q) o X l a h =
-        finds_once (known_for S w d e) (λ v. add (plain (cond (truth v) p q) d.span)) w X (λ v r. finds_kept (keep_add A (plain (cond (truth v) p q) d.span) w (l, h v (told w d e v X r)) X))
+        finds_once (known_for S w d e) (λ v. add (plain (cond (truth v) p q) d.span)) w X (λ v r. finds_kept (keep_add A (plain (cond (truth v) p q) d.span) w (l, h v (shown w d e v X r)) X))
     rule_finds w d (Next p) o X l a h = finds_on d (plain p d.span) w l h X
     rule_finds w d (Always p) o X l a h =
         finds_kept (keep_then (λ u. when_on (u.ends d.span) (carry d) u) (keep_add A (plain p d.span) w (l, h.0) X)
         (λ u Y. keep_when (u.ends d.span) (φ d.span) (carry d) u (Y.ends d.span) (λ i. keep_carry A d u (l, h.1 i) Y) Y))
     rule_finds w d (Halt e) o X l a h =
         finds_once (known_for S w d e) (halt_rule d) w X
-        (λ v r. let y = h v (told w d e v X r) in finds_truth v (put d.statement Last d.span w) (and_then (put d.statement On d.span w) (carry d)) (λ z. finds_last d w (y.0 z) X) (λ z. finds_on d d w l (y.1 z) X))
-    rule_finds w d (Len e) None X l a h = finds_once (known_for S w d e) (len_rule d) w X (λ v r. finds_len d v w l (h v (told w d e v X r)) X)
+        (λ v r. let y = h v (shown w d e v X r) in finds_truth v (put d.statement Last d.span w) (and_then (put d.statement On d.span w) (carry d)) (λ z. finds_last d w (y.0 z) X) (λ z. finds_on d d w l (y.1 z) X))
+    rule_finds w d (Len e) None X l a h = finds_once (known_for S w d e) (len_rule d) w X (λ v r. finds_len d v w l (h v (shown w d e v X r)) X)
     rule_finds w d (Len e) (Some c) X l a h = finds_len d c w l h X
     rule_finds w d (Gets x e) None X l a h =
         finds_when (w.ends d.span) (φ d.span) (once_known (known_for S w d e) (gets_rule d)) w (X.ends d.span)
         (λ i. finds_once (known_for S w d e) (gets_rule d) w X
-        (λ v r. let y = h i v (told w d e v X r) in finds_kept (keep_then (carry d) (keep_carry A (numbered d.statement v d.span) w (l, y.0) X) (λ u Y. keep_carry A d u (l, y.1) Y)))) X
+        (λ v r. let y = h i v (shown w d e v X r) in finds_kept (keep_then (carry d) (keep_carry A (numbered d.statement v d.span) w (l, y.0) X) (λ u Y. keep_carry A d u (l, y.1) Y)))) X
     rule_finds w d (Gets x e) (Some v) X l a h = finds_kept (keep_give A d.statement x v w h X)
     rule_finds w d (Chop p q) o X l a h = finds_open A w (chop_opening d p q) X l h
     rule_finds w d (For e p) None X l a h =
-        finds_once (known_for S w d e) (λ c. add (numbered d.statement c d.span)) w X (λ v r. finds_kept (keep_add A (numbered d.statement v d.span) w (l, h v (told w d e v X r)) X))
+        finds_once (known_for S w d e) (λ c. add (numbered d.statement c d.span)) w X (λ v r. finds_kept (keep_add A (numbered d.statement v d.span) w (l, h v (shown w d e v X r)) X))
     rule_finds w d (For e p) (Some c) X l a h = finds_for d p c w l h X
     rule_finds w d (While e p) o X l a h =
         finds_once (known_for S w d e) (while_rule d p) w X
-        (λ v r. let y = h v (told w d e v X r) in finds_truth v _ _ (λ z. finds_open A w (while_opening d p) X l (y.0 z)) (λ z. finds_last d w (y.1 z) X))
+        (λ v r. let y = h v (shown w d e v X r) in finds_truth v _ _ (λ z. finds_open A w (while_opening d p) X l (y.0 z)) (λ z. finds_last d w (y.1 z) X))
     rule_finds w d (Request x) o X l a h = finds_once (S.readings x k) (give S d.statement x) w X (λ v r. finds_kept (keep_give A d.statement x v w (h v r) X))
 
     pub visit_finds : (d : Duty) (w : Work) → d ∈ w.duties → Placed G n φ w → FindsPlaces G n φ (visit S k d w)
