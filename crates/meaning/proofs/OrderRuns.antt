@@ -11,7 +11,7 @@ use Rattle.meaning.specs.Work.{Work, Outcome}
 use Rattle.meaning.specs.Passes.{Settles}
 use Rattle.meaning.specs.Visiting.{Visits, SettlesAnyhow, Visiting, in_passes, in_any_order, SettlesBy}
 use Rattle.meaning.specs.Runs.{first_work, step_of, Step, stopped, recorded, finished, StepsBy, OpenBy, start, onward, FinishedBy, finish, StoppedBy, stop, RecordBy, open_record, finished_record}
-use Rattle.meaning.specs.AnyOrder.{EndedBy, has_finished, has_stopped, SameVerdict, both_finished, both_undetermined, both_broken, OrderMakesNoDifference}
+use Rattle.meaning.specs.AnyOrder.{EndedBy, has_finished, has_stopped, SameVerdict, both_finished, both_undetermined, both_broken, OrdersEnd, StatesAgree, RunsAgree, OrderMakesNoDifference}
 use Rattle.meaning.proofs.Lists.{longer}
 use Rattle.meaning.proofs.Fall.{left}
 use Rattle.meaning.proofs.Grown.{settles_total}
@@ -153,16 +153,17 @@ module _ (c : Content) (L : Limits c) (f g : ℕ → ℕ → Option ℤ) (R : Sa
   no_longer {q} {r} e o =
       ⊎_elim (λ (l : length e.before < length r). absurd (goes_no_further c L f g R e o l)) (λ (l : length r ≤ length e.before). omega (arith, l, not_longer e.closes)) (cases_lt (length e.before) (length r))
 
-  -- a run that goes on has another count than one that has finished
-  open_not_finished : {q r : List (List ℤ)} {w : Work} → FinishedBy in_any_order (under c f) q → OpenBy in_any_order (under c g) r w → length r ≡ length q → ⊥
-  open_not_finished (finish {r = q} {x = x} a s) o e =
-      goes_no_further c L f g R (record { before = q; work = _; run = a; step = _; steps = s; closes = by_finish }) o (omega (arith, e, longer q x))
+  -- and a run that goes on has fewer states than one that has finished
+  open_below : {q r : List (List ℤ)} {w : Work} → FinishedBy in_any_order (under c f) q → OpenBy in_any_order (under c g) r w → length r < length q
+  open_below {r = r} (finish {r = q} {x = x} a s) o =
+      let e : LastStep (under c f) (q ++ (x ∷ [])) None = record { before = q; work = _; run = a; step = _; steps = s; closes = by_finish } in
+      ⊎_elim (λ (l : length q < length r). absurd (goes_no_further c L f g R e o l)) (λ (l : length r ≤ length q). omega (arith, l, longer q x)) (cases_lt (length q) (length r))
 
 module _ (c : Content) (L : Limits c) (f g : ℕ → ℕ → Option ℤ) (R : SameReadings f g) where
   record_alike : {q r : List (List ℤ)} (i j : Visiting) → RecordBy i (under c f) q → RecordBy j (under c g) r → length q ≡ length r → q ≡ r
   record_alike i j (open_record w a) (open_record v b) e = (together c L f g R (open_any L i a) (open_any L j b) e).equal
-  record_alike i j (open_record w a) (finished_record b) e = absurd (open_not_finished c L g f (flipped R) (finished_any L j b) (open_any L i a) e)
-  record_alike i j (finished_record a) (open_record v b) e = absurd (open_not_finished c L f g R (finished_any L i a) (open_any L j b) (sym e))
+  record_alike i j (open_record w a) (finished_record b) e = absurd (omega (arith, open_below c L g f (flipped R) (finished_any L j b) (open_any L i a), e))
+  record_alike i j (finished_record a) (open_record v b) e = absurd (omega (arith, open_below c L f g R (finished_any L i a) (open_any L j b), e))
   record_alike i j (finished_record a) (finished_record b) e = (ended_alike c L f g R (last_step (has_finished (finished_any L i a))) (last_step (has_finished (finished_any L j b)))).equal
 
 -- ---- a run of either kind that comes to the same
@@ -216,21 +217,32 @@ module _ (c : Content) (L : Limits c) (f g : ℕ → ℕ → Option ℤ) (R : Sa
       let e = stopped_too t.meets in
       (Some e.0, has_stopped (stop d.1 (subst (λ z. StepsBy j (under c g) (length r) d.0 z) e.1 t.steps)), e.2)
 
-pub order_makes_no_difference : OrderMakesNoDifference
-order_makes_no_difference = record {
-  passes = λ S L r w o p s. settles_any L in_passes (start_of L o) s;
-  engines = λ S L r w o. open_any L in_passes o;
-  ends = λ S L r w u o a. comes_to_an_end L o a;
-  falls = λ S L r w o. (left (width S), λ u v a. (visit_same, visit_falls S L (visits_move S L (start_of L o).tidy a).1));
-  states = λ c f g L R q r w v a b e.
-      let m : Together (under c f) (under c g) q r w v = together c L f g R a b e in (
-        m.equal,
-        starts_same m.paired,
-        λ o p s t. same_outcome (meet_at c L f g R (length q) m.paired s (subst (λ k. SettlesAnyhow (under c g) k v p) (sym e) t)),
-      );
-  records = λ c f g L R i j q r a b e. record_alike c L f g R i j a b e;
-  reaches = λ c f g L R i j q w o. open_too c L f g R j (open_any L i o);
-  reaches_end = λ c f g L R i j q x e. ended_too c L f g R j (ended_any L i e);
-  verdicts = λ c f g L R i j q r x y a b. let m : Alike q r x y = ended_alike c L f g R (last_step (ended_any L i a)) (last_step (ended_any L j b)) in (m.equal, m.verdict);
-  no_further = λ c f g L R i j q r x w a o. no_longer c L f g R (last_step (ended_any L i a)) (open_any L j o);
+orders_end : (S : Setting) → Limits S.sheet → OrdersEnd S
+orders_end S L = record {
+  passes = λ r w o p s. settles_any L in_passes (start_of L o) s;
+  engines = λ r w o. open_any L in_passes o;
+  ends = λ r w u o a. comes_to_an_end L o a;
+  falls = λ r w o. (left (width S), λ u v a. (visit_same, visit_falls S L (visits_move S L (start_of L o).tidy a).1));
 }
+
+states_agree : (c : Content) (f g : ℕ → ℕ → Option ℤ) → Limits c → SameReadings f g → StatesAgree (under c f) (under c g)
+states_agree c f g L R q r w v a b e =
+    let m : Together (under c f) (under c g) q r w v = together c L f g R a b e in
+    (
+      m.equal,
+      starts_same m.paired,
+      λ o p s t. same_outcome (meet_at c L f g R (length q) m.paired s (subst (λ k. SettlesAnyhow (under c g) k v p) (sym e) t)),
+    )
+
+runs_agree : (c : Content) (f g : ℕ → ℕ → Option ℤ) → Limits c → SameReadings f g → (i j : Visiting) → RunsAgree (under c f) (under c g) i j
+runs_agree c f g L R i j = record {
+  records = λ q r a b e. record_alike c L f g R i j a b e;
+  verdicts = λ q r x y a b. let m : Alike q r x y = ended_alike c L f g R (last_step (ended_any L i a)) (last_step (ended_any L j b)) in (m.equal, m.verdict);
+  finished = λ q r w a o. open_below c L f g R (finished_any L i a) (open_any L j o);
+  stopped = λ q r s w a o. no_longer c L f g R (last_step (has_stopped (stopped_any L i a))) (open_any L j o);
+  reaches = λ q w o. open_too c L f g R j (open_any L i o);
+  reaches_end = λ q x e. ended_too c L f g R j (ended_any L i e);
+}
+
+pub order_makes_no_difference : OrderMakesNoDifference
+order_makes_no_difference = record { ends = orders_end; states = states_agree; runs = runs_agree }

@@ -70,32 +70,39 @@ pub data SameVerdict : Option Stop → Option Stop → Type 0 where
   both_undetermined : {x : LeftOpen} → SameVerdict (Some (Undetermined x)) (Some (Undetermined x))
   both_broken : {a b : Stop} → Broken a → Broken b → SameVerdict (Some a) (Some b)
 
--- the order of visits makes no difference
-pub record OrderMakesNoDifference : Type 0 where
-  -- passes are one of the orders: what an engine settles, is settled in some order, state by state and run by run
-  pub passes : (S : Setting) → Limits S.sheet → (r : List (List ℤ)) (w : Work) → OpenBy in_any_order S r w → (o : Outcome) → Settles S (length r) w o → SettlesAnyhow S (length r) w o
-  pub engines : (S : Setting) → Limits S.sheet → (r : List (List ℤ)) (w : Work) → Open S r w → OpenBy in_any_order S r w
-  -- whatever has been visited so far, and in whichever order, there are visits that bring the state to an outcome
-  pub ends : (S : Setting) → Limits S.sheet → (r : List (List ℤ)) (w u : Work) → OpenBy in_any_order S r w → Visits S (length r) w u → (o : Outcome) × SettlesAnyhow S (length r) u o
-  -- and none changes it for ever: a visit that is not said to change anything changes nothing, and each other lowers a number of what is left to find out
-  pub falls : (S : Setting) → Limits S.sheet → (r : List (List ℤ)) (w : Work) → OpenBy in_any_order S r w
+-- every order of visits leads to an end: of the states of one setting's runs
+pub record OrdersEnd (S : Setting) : Type 0 where
+  -- passes are one of the orders: what they come to, some order comes to, and so it is along whole runs
+  pub passes : (r : List (List ℤ)) (w : Work) → OpenBy in_any_order S r w → (o : Outcome) → Settles S (length r) w o → SettlesAnyhow S (length r) w o
+  pub engines : (r : List (List ℤ)) (w : Work) → Open S r w → OpenBy in_any_order S r w
+  -- whatever has been visited so far, there are visits that bring the state to an outcome
+  pub ends : (r : List (List ℤ)) (w u : Work) → OpenBy in_any_order S r w → Visits S (length r) w u → (o : Outcome) × SettlesAnyhow S (length r) u o
+  -- and none change it for ever: a visit that is said to change nothing does so, and each other lowers a number, which says how much is left to find out
+  pub falls : (r : List (List ℤ)) (w : Work) → OpenBy in_any_order S r w
       → (left : Work → ℕ) × ((u v : Work) → Visits S (length r) w u → (OneVisit S (length r) u (goes v false) → v ≡ u) × (OneVisit S (length r) u (goes v true) → left v < left u))
-  -- of two runs of equal sheets under equal readings, each visited in an order of its own: at equal counts the records are equal, the next
-  -- states start with works that are the same but for order, and come to the same outcome
-  pub states : (c : Content) (f g : ℕ → ℕ → Option ℤ) → Limits c → SameReadings f g
-      → (q r : List (List ℤ)) (w v : Work) → OpenBy in_any_order (under c f) q w → OpenBy in_any_order (under c g) r v → length q ≡ length r
-      → (q ≡ r) × SameButForOrder w v × ((o p : Outcome) → SettlesAnyhow (under c f) (length q) w o → SettlesAnyhow (under c g) (length r) v p → SameOutcome o p)
-  -- along whole runs, in passes or in any order: equal counts, equal records
-  pub records : (c : Content) (f g : ℕ → ℕ → Option ℤ) → Limits c → SameReadings f g
-      → (i j : Visiting) (q r : List (List ℤ)) → RecordBy i (under c f) q → RecordBy j (under c g) r → length q ≡ length r → q ≡ r
-  -- what one run comes to, there is one of either kind that comes to it too
-  pub reaches : (c : Content) (f g : ℕ → ℕ → Option ℤ) → Limits c → SameReadings f g
-      → (i j : Visiting) (q : List (List ℤ)) (w : Work) → OpenBy i (under c f) q w → (v : Work) × OpenBy j (under c g) q v
-  pub reaches_end : (c : Content) (f g : ℕ → ℕ → Option ℤ) → Limits c → SameReadings f g
-      → (i j : Visiting) (q : List (List ℤ)) (x : Option Stop) → EndedBy i (under c f) q x → (y : Option Stop) × EndedBy j (under c g) q y × SameVerdict x y
-  -- where one run has ended, each other that has ended has the same record and a verdict of the same kind
-  pub verdicts : (c : Content) (f g : ℕ → ℕ → Option ℤ) → Limits c → SameReadings f g
-      → (i j : Visiting) (q r : List (List ℤ)) (x y : Option Stop) → EndedBy i (under c f) q x → EndedBy j (under c g) r y → (q ≡ r) × SameVerdict x y
-  -- and no order leads beyond the state at which one has ended
-  pub no_further : (c : Content) (f g : ℕ → ℕ → Option ℤ) → Limits c → SameReadings f g
-      → (i j : Visiting) (q r : List (List ℤ)) (x : Option Stop) (w : Work) → EndedBy i (under c f) q x → OpenBy j (under c g) r w → length r ≤ length q
+
+-- two runs, each state of which was visited in an order of its own: at equal counts the records are equal, and the next states start with works that
+-- are the same but for order, and come to the same outcome
+abbrev pub StatesAgree : Setting → Setting → Type 0
+StatesAgree S T =
+    (q r : List (List ℤ)) (w v : Work) → OpenBy in_any_order S q w → OpenBy in_any_order T r v → length q ≡ length r
+    → (q ≡ r) × SameButForOrder w v × ((o p : Outcome) → SettlesAnyhow S (length q) w o → SettlesAnyhow T (length r) v p → SameOutcome o p)
+
+-- whole runs, the one visited so and the other so
+pub record RunsAgree (S T : Setting) (i j : Visiting) : Type 0 where
+  -- equal counts, equal records
+  pub records : (q r : List (List ℤ)) → RecordBy i S q → RecordBy j T r → length q ≡ length r → q ≡ r
+  -- two that have ended have the same record, and verdicts of one kind
+  pub verdicts : (q r : List (List ℤ)) (x y : Option Stop) → EndedBy i S q x → EndedBy j T r y → (q ≡ r) × SameVerdict x y
+  -- where the one has finished, or met a stop, the other goes no further
+  pub finished : (q r : List (List ℤ)) (w : Work) → FinishedBy i S q → OpenBy j T r w → length r < length q
+  pub stopped : (q r : List (List ℤ)) (s : Stop) (w : Work) → StoppedBy i S q s → OpenBy j T r w → length r ≤ length q
+  -- what the one comes to, another comes to
+  pub reaches : (q : List (List ℤ)) (w : Work) → OpenBy i S q w → (v : Work) × OpenBy j T q v
+  pub reaches_end : (q : List (List ℤ)) (x : Option Stop) → EndedBy i S q x → (y : Option Stop) × EndedBy j T q y × SameVerdict x y
+
+-- the order of visits makes no difference: for every sheet that keeps the limits, and all readings; equal readings where two runs are compared
+pub record OrderMakesNoDifference : Type 0 where
+  pub ends : (S : Setting) → Limits S.sheet → OrdersEnd S
+  pub states : (c : Content) (f g : ℕ → ℕ → Option ℤ) → Limits c → SameReadings f g → StatesAgree (under c f) (under c g)
+  pub runs : (c : Content) (f g : ℕ → ℕ → Option ℤ) → Limits c → SameReadings f g → (i j : Visiting) → RunsAgree (under c f) (under c g) i j
