@@ -1,5 +1,5 @@
 -- Advances in any order record the same and answer alike.
-use Rattle.std.proofs.Common.{◌≡◌, ℕ, ◌<◌, length, List, ℤ, Option, sym, refl, ap, subst, arith}
+use Rattle.std.proofs.Common.{◌≡◌, ℕ, ◌<◌, length, List, ℤ, Option, sym, refl, subst, arith}
 use Rattle.sheet.specs.Content.{Content}
 use Rattle.sheet.specs.Limits.{Limits}
 use Rattle.feed.specs.Readings.{SameReadings}
@@ -7,8 +7,7 @@ use Rattle.meaning.specs.declared.parts.Stop.{Stop}
 use Rattle.meaning.specs.Intervals.{Setting, under}
 use Rattle.meaning.specs.Work.{Work}
 use Rattle.meaning.specs.Visiting.{Visiting, in_any_order}
-use Rattle.meaning.specs.Runs.{Step, stopped, recorded, finished, StepsBy, OpenBy, onward}
-use Rattle.meaning.specs.AnyOrder.{Broken}
+use Rattle.meaning.specs.Runs.{Step, stopped, finished, StepsBy, OpenBy, onward}
 use Rattle.meaning.proofs.SameRests.{Paired, starts_same}
 use Rattle.meaning.proofs.OrderLaw.{MeetSteps, meet_finished, meet_undetermined, meet_broken, not_finished_recorded, not_stopped_recorded, not_finished_stopped, not_stopped_finished, not_recorded_finished, not_recorded_stopped, Recorded, both_recorded, together, steps_at}
 use Rattle.meaning.proofs.OrderRuns.{start_of, steps_any, open_any}

@@ -16,7 +16,7 @@ use Rattle.calls.specs.declared.parts.NotAdvanced.TheVariants.{Full}
 use Rattle.calls.specs.declared.parts.NotLoaded.TheVariants.{RunIsOpen as RunOpen, Refused}
 use Rattle.calls.specs.declared.parts.Report.{Report}
 use Rattle.calls.specs.Meant.{Standing, idle, running, ended, Meant, stands, Recording, blank, with_state}
-use Rattle.calls.specs.Told.{Told, done, found, is_idle, is_open, is_finished, count, told_denial, told_not_loaded, told_advance, told_stop, told_ending}
+use Rattle.calls.specs.Told.{Told, done, found, is_open, is_finished, count, told_denial, told_not_loaded, told_advance, told_stop}
 
 -- a load with this verdict on its text, where no run is open: the sheet is held and the engine is idle, or nothing has changed
 abbrev pub LoadsBy : Result Content Refusal → Meant → Told → Meant → Type 0

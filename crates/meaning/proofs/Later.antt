@@ -1,20 +1,19 @@
 -- Each visit leads to a later work of the same state: what is known stays, and what is in a list keeps its place.
-use Rattle.std.proofs.Common.{◌≡◌, ℕ, zero, suc, ◌<◌, Bool, true, false, ◌&&◌, eqb, ltb, List, [], ◌∷◌, ◌++◌, length, get_or, ℤ, pos, Some, None, Option, sym, refl, ap, ◌∙◌, subst, arith}
+use Rattle.std.proofs.Common.{◌≡◌, ℕ, zero, suc, ◌<◌, eqb, List, [], ◌∷◌, ◌++◌, get_or, ℤ, pos, Some, None, Option, sym, refl, ap, ◌∙◌, subst, arith}
 use Rattle.std.specs.List.{slice_get}
 use Rattle.std.proofs.lemmas.Bool.{eqb-true, cond_both}
 use Rattle.sheet.specs.declared.parts.Expression.{Expression}
 use Rattle.value.specs.declared.parts.End.{End}
 use Rattle.value.specs.declared.parts.End.TheVariants.{Unknown, On, Last}
-use Rattle.value.specs.Values.{same, known_at, last_bit, once, twice, apply, denied, known}
+use Rattle.value.specs.Values.{known_at, last_bit, once, twice, apply, denied, known}
 use Rattle.value.proofs.Tables.{Alike, none as alike-none, alike_at, tables_alike}
 use Rattle.sheet.specs.declared.parts.Expression.TheVariants.{Num, Val, Pair, Not, Last as LastOf}
 use Rattle.meaning.specs.declared.parts.Duty.{Duty}
 use Rattle.meaning.specs.declared.parts.Opening.{Opening}
 use Rattle.meaning.specs.declared.parts.Span.{Span}
-use Rattle.meaning.specs.declared.parts.Stop.TheVariants.{Contradiction}
-use Rattle.meaning.specs.Intervals.{Setting, fits}
-use Rattle.meaning.specs.Work.{Work, stops, unchanged, changed, has_duty, has_opened}
-use Rattle.meaning.specs.Effects.{most_duties, most_spans, with_value, with_end, with_duty, with_later, with_span, if_room, give_by, put_by}
+use Rattle.meaning.specs.Intervals.{Setting}
+use Rattle.meaning.specs.Work.{Work}
+use Rattle.meaning.specs.Effects.{with_value, with_end, with_span}
 use Rattle.meaning.specs.Order.{◌∈◌, IsEnded, Later}
 use Rattle.meaning.proofs.Lists.{∈_left, set_other, none_some, nth_in, in_nth}
 use Rattle.meaning.proofs.Tests.{unknown_on, unknown_last}

@@ -1,16 +1,12 @@
 -- Every work of a run is neat: what a visit does keeps it so, and so does the step to the next state.
-use Rattle.std.proofs.Common.{◌≡◌, ℕ, suc, ◌<◌, Bool, true, false, ◌&&◌, ltb, List, [], ◌∷◌, ◌++◌, length, ℤ, Some, None, Option, sym, refl, ◌∙◌, subst, arith}
-use Rattle.std.proofs.lemmas.Bool.{both_ways, cond_both}
-use Rattle.value.specs.declared.parts.End.{End}
-use Rattle.value.specs.declared.parts.End.TheVariants.{Unknown, On, Last}
-use Rattle.value.specs.Values.{same}
+use Rattle.std.proofs.Common.{◌≡◌, suc, ◌<◌, true, false, List, [], ◌∷◌, ◌++◌, Some, sym, refl, ◌∙◌, subst, arith}
+use Rattle.std.proofs.lemmas.Bool.{both_ways}
 use Rattle.meaning.specs.declared.parts.Duty.{Duty}
 use Rattle.meaning.specs.declared.parts.Opening.{Opening}
 use Rattle.meaning.specs.declared.parts.Span.{Span}
-use Rattle.meaning.specs.declared.parts.Stop.TheVariants.{Contradiction}
-use Rattle.meaning.specs.Intervals.{Setting, fits}
-use Rattle.meaning.specs.Work.{Work, stops, unchanged, changed, has_duty, has_opened}
-use Rattle.meaning.specs.Effects.{most_duties, most_spans, with_value, with_end, with_duty, with_later, with_span, if_room, give_by, put_by}
+use Rattle.meaning.specs.Intervals.{Setting}
+use Rattle.meaning.specs.Work.{Work, has_duty, has_opened}
+use Rattle.meaning.specs.Effects.{with_value, with_end, with_duty, with_later, with_span}
 use Rattle.meaning.specs.Order.{◌∈◌}
 use Rattle.meaning.proofs.Lists.{all_snoc}
 use Rattle.meaning.proofs.Tests.{stands_has}

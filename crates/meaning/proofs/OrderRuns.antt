@@ -227,8 +227,7 @@ orders_end S L = record {
 
 states_agree : (c : Content) (f g : ℕ → ℕ → Option ℤ) → Limits c → SameReadings f g → StatesAgree (under c f) (under c g)
 states_agree c f g L R q r w v a b e =
-    let m : Together (under c f) (under c g) q r w v = together c L f g R a b e in
-    (
+    let m : Together (under c f) (under c g) q r w v = together c L f g R a b e in (
       m.equal,
       starts_same m.paired,
       λ o p s t. same_outcome (meet_at c L f g R (length q) m.paired s (subst (λ k. SettlesAnyhow (under c g) k v p) (sym e) t)),

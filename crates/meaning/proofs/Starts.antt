@@ -1,16 +1,13 @@
 -- What a state starts with, and what it settles to, along a run.
-use Rattle.std.proofs.Common.{◌≡◌, ℕ, ◌<◌, Bool, true, false, ◌&&◌, ltb, List, [], ◌∷◌, length, ℤ, Some, None, Option, ◌⊎◌, inl, inr, sym, refl, ap, ◌∙◌, subst, arith}
-use Rattle.std.proofs.lemmas.Bool.{both_ways, cond_both}
+use Rattle.std.proofs.Common.{◌≡◌, ℕ, ◌<◌, true, false, List, [], ◌∷◌, Some, None, ◌⊎◌, inl, inr, sym, refl, ap, ◌∙◌, subst, arith}
+use Rattle.std.proofs.lemmas.Bool.{both_ways}
 use Rattle.sheet.specs.Limits.{Limits}
 use Rattle.value.specs.declared.parts.End.{End}
 use Rattle.value.specs.declared.parts.End.TheVariants.{Unknown, On, Last}
-use Rattle.value.specs.Values.{same}
 use Rattle.meaning.specs.declared.parts.Opening.{Opening}
 use Rattle.meaning.specs.declared.parts.Span.{Span}
-use Rattle.meaning.specs.declared.parts.Stop.TheVariants.{Contradiction}
-use Rattle.meaning.specs.Intervals.{Setting, fits}
-use Rattle.meaning.specs.Work.{Work, stops, goes, unchanged, changed, has_duty, has_opened}
-use Rattle.meaning.specs.Effects.{most_duties, most_spans, with_value, with_duty, with_later, with_span, if_room, give_by, put_by}
+use Rattle.meaning.specs.Intervals.{Setting}
+use Rattle.meaning.specs.Work.{Work, goes}
 use Rattle.meaning.specs.Passes.{pass}
 use Rattle.meaning.specs.Visiting.{SettlesAnyhow, comes_to_rest}
 use Rattle.meaning.specs.Runs.{whole_span, first_work, kept_by, going_on, next_work}
