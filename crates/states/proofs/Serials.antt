@@ -1,15 +1,8 @@
 -- Settling a state opens as many serials as spans.
-use Rattle.std.proofs.Common.{◌≡◌, ℕ, ◌+◌, ◌*◌, ◌≤◌, vec_items, false, Bool, true, ◌&&◌, ltb, length, ℤ, Some, None, Option, refl, arith}
-use Rattle.std.proofs.lemmas.Bool.{cond_both}
+use Rattle.std.proofs.Common.{◌≡◌, ℕ, ◌+◌, ◌*◌, ◌≤◌, vec_items, false, Bool, true, length, Some, refl, arith}
 use Rattle.std.proofs.lemmas.List.{length-map}
-use Rattle.value.specs.declared.parts.End.{End}
-use Rattle.value.specs.declared.parts.End.TheVariants.{Unknown, On, Last}
-use Rattle.value.specs.Values.{same}
-use Rattle.meaning.specs.declared.parts.Opening.{Opening}
-use Rattle.meaning.specs.declared.parts.Stop.TheVariants.{Contradiction, Crowded}
-use Rattle.meaning.specs.Intervals.{Setting, fits}
-use Rattle.meaning.specs.Work.{Work, stops, goes, unchanged, changed, has_duty, has_opened}
-use Rattle.meaning.specs.Effects.{most_duties, most_spans, with_value, with_duty, with_later, with_span, if_room, give_by, put_by}
+use Rattle.meaning.specs.Intervals.{Setting}
+use Rattle.meaning.specs.Work.{Work, goes}
 use Rattle.meaning.specs.Passes.{Settles}
 use Rattle.meaning.proofs.Lists.{longer}
 use Rattle.meaning.proofs.Kept.{Kept, kept_settles}
