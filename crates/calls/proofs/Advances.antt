@@ -10,7 +10,7 @@ use Rattle.meaning.specs.Visiting.{Visiting, in_any_order}
 use Rattle.meaning.specs.Runs.{Step, stopped, finished, StepsBy, OpenBy, onward}
 use Rattle.meaning.proofs.SameRests.{Paired, starts_same}
 use Rattle.meaning.proofs.OrderLaw.{MeetSteps, meet_finished, meet_undetermined, meet_broken, not_finished_recorded, not_stopped_recorded, not_finished_stopped, not_stopped_finished, not_recorded_finished, not_recorded_stopped, Recorded, both_recorded, together, steps_at}
-use Rattle.meaning.proofs.OrderRuns.{start_of, steps_any, open_any}
+use Rattle.meaning.proofs.AnyRuns.{start_of, steps_any, open_any}
 use Rattle.calls.specs.declared.parts.Ending.{Ending}
 use Rattle.calls.specs.declared.parts.Ending.TheVariants.{Stopped}
 use Rattle.calls.specs.Meant.{Standing, ended, Recording, with_state}

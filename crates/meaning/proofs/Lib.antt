@@ -32,6 +32,7 @@ pub mod RestGrants
 pub mod OneToOne
 pub mod PartStays
 pub mod Starts
+pub mod AnyRuns
 pub mod InRest
 pub mod SameRests
 pub mod OrderLaw

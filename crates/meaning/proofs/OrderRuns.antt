@@ -9,56 +9,21 @@ use Rattle.meaning.specs.declared.parts.Stop.{Stop}
 use Rattle.meaning.specs.Intervals.{Setting, under, width}
 use Rattle.meaning.specs.Work.{Work, Outcome}
 use Rattle.meaning.specs.Passes.{Settles}
-use Rattle.meaning.specs.Visiting.{Visits, SettlesAnyhow, Visiting, in_passes, in_any_order, SettlesBy}
-use Rattle.meaning.specs.Runs.{first_work, step_of, Step, stopped, recorded, finished, StepsBy, OpenBy, start, onward, FinishedBy, finish, StoppedBy, stop, RecordBy, open_record, finished_record}
+use Rattle.meaning.specs.Visiting.{SettlesAnyhow, Visiting, in_passes, in_any_order, SettlesBy}
+use Rattle.meaning.specs.Runs.{first_work, step_of, Step, stopped, recorded, finished, StepsBy, OpenBy, start, onward, FinishedBy, finish, stop, RecordBy, open_record, finished_record}
 use Rattle.meaning.specs.AnyOrder.{EndedBy, has_finished, has_stopped, SameVerdict, both_finished, both_undetermined, both_broken, OrdersEnd, StatesAgree, RunsAgree, OrderMakesNoDifference}
 use Rattle.meaning.proofs.Lists.{longer}
 use Rattle.meaning.proofs.Fall.{left}
 use Rattle.meaning.proofs.Grown.{settles_total}
-use Rattle.meaning.proofs.Kept.{kept_visits}
-use Rattle.meaning.proofs.Fuel.{roomy_kept}
-use Rattle.meaning.proofs.AnyVisits.{visits_move, visit_same, visit_falls, passes_anyhow}
+use Rattle.meaning.proofs.AnyVisits.{visits_move, visit_same, visit_falls}
 use Rattle.meaning.proofs.Starts.{Start}
+use Rattle.meaning.proofs.AnyRuns.{start_of, settles_any, steps_any, open_any, finished_any, stopped_any, comes_to_an_end}
 use Rattle.meaning.proofs.SameRests.{starts_same}
 use Rattle.meaning.proofs.OrderLaw.{MeetSteps, meet_recorded, meet_finished, meet_undetermined, meet_broken, not_finished_recorded, not_stopped_recorded, not_finished_stopped, not_stopped_finished, same_outcome, Together, meet_at, steps_at, together, same_more}
 
-same_readings : (f : ℕ → ℕ → Option ℤ) → SameReadings f f
-same_readings f x k = refl
-
--- ---- each state is settled in some order
-
-module _ {S : Setting} (L : Limits S.sheet) where
-  pub start_of : {r : List (List ℤ)} {w : Work} → OpenBy in_any_order S r w → Start S w
-  start_of o = (together S.sheet L S.readings S.readings (same_readings S.readings) o o refl).paired.one
-
-  settles_any : (i : Visiting) {k : ℕ} {w : Work} {o : Outcome} → Start S w → SettlesBy i S k w o → SettlesAnyhow S k w o
-  settles_any in_passes A s = passes_anyhow S L A.tidy A.roomy s
-  settles_any in_any_order A s = s
-
-  pub steps_any : (i : Visiting) {k : ℕ} {w : Work} {s : Step} → Start S w → StepsBy i S k w s → StepsBy in_any_order S k w s
-  steps_any i A s = record { outcome = s.outcome; settles = settles_any i A s.settles; comes = s.comes }
-
-  pub open_any : (i : Visiting) {r : List (List ℤ)} {w : Work} → OpenBy i S r w → OpenBy in_any_order S r w
-  open_any i start = start
-  open_any i (onward o s) = let a = open_any i o in onward a (steps_any i (start_of a) s)
-
-  pub finished_any : (i : Visiting) {r : List (List ℤ)} → FinishedBy i S r → FinishedBy in_any_order S r
-  finished_any i (finish o s) = let a = open_any i o in finish a (steps_any i (start_of a) s)
-
-  pub stopped_any : (i : Visiting) {r : List (List ℤ)} {p : Stop} → StoppedBy i S r p → StoppedBy in_any_order S r p
-  stopped_any i (stop o s) = let a = open_any i o in stop a (steps_any i (start_of a) s)
-
-  ended_any : (i : Visiting) {r : List (List ℤ)} {x : Option Stop} → EndedBy i S r x → EndedBy in_any_order S r x
-  ended_any i (has_finished h) = has_finished (finished_any i h)
-  ended_any i (has_stopped h) = has_stopped (stopped_any i h)
-
-  -- after any visits, others bring the state to an outcome
-  comes_to_an_end : {r : List (List ℤ)} {w u : Work} {k : ℕ} → OpenBy in_any_order S r w → Visits S k w u → (o : Outcome) × SettlesAnyhow S k u o
-  comes_to_an_end {u = u} {k = k} o a =
-      let A : Start S _ = start_of o in
-      let t = (visits_move S L A.tidy a).1 in
-      let s : (p : Outcome) × Settles S k u p = settles_total S L k u t in
-      (s.0, passes_anyhow S L t (kept_visits S _ (roomy_kept S) a A.roomy) s.1)
+ended_any : {S : Setting} (L : Limits S.sheet) (i : Visiting) {r : List (List ℤ)} {x : Option Stop} → EndedBy i S r x → EndedBy in_any_order S r x
+ended_any L i (has_finished h) = has_finished (finished_any L i h)
+ended_any L i (has_stopped h) = has_stopped (stopped_any L i h)
 
 -- ---- a run that has gone on was at each earlier count
 

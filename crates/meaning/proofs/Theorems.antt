@@ -29,7 +29,7 @@ use Rattle.meaning.proofs.Fore.{Fore, Fits, fore, contradiction_refutes, ends_sa
 use Rattle.meaning.proofs.Finish.{row_rests, ends_hold}
 use Rattle.meaning.proofs.One.{steps_one}
 use Rattle.meaning.proofs.Records.{Started, CompleteRun, started, completed}
-use Rattle.meaning.proofs.OrderRuns.{start_of, open_any, finished_any, stopped_any}
+use Rattle.meaning.proofs.AnyRuns.{start_of, open_any, finished_any, stopped_any}
 
 -- every recorded number is in its range
 fits_of : (S : Setting) (x : ℕ) (q : Option ℤ) (r : ℤ) → FitSays S x q → Agrees q r → IsGiven q → fits S x r ≡ true
