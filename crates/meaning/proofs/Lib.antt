@@ -1,5 +1,5 @@
 -- Lists and tests; what a duty asks; what is granted at places, that visits keep a work placed in it, and that an interval grants what holds of it (soundness);
--- what a work at rest says (exactness); the order that every work keeps and the measure that falls; and the laws.
+-- what a work at rest says (exactness), and what it grants to the works of other orders; the order that every work keeps and the measure that falls; and the laws.
 pub mod Lists
 pub mod Tests
 pub mod Owed

@@ -1,4 +1,4 @@
--- The order of visits makes no difference: to one state, and along whole runs.
+-- Two orders of visits come to the same: in one state, and in runs with equally many states.
 use Rattle.std.proofs.Common.{◌≡◌, ℕ, ◌<◌, false, List, [], ◌∷◌, ◌++◌, length, ℤ, Some, None, Option, sym, refl, ap, ◌∙◌, subst, subst₂, arith}
 use Rattle.sheet.specs.Content.{Content}
 use Rattle.sheet.specs.Limits.{Limits}

@@ -1,4 +1,4 @@
--- The law that the order of visits makes no difference, for whole runs.
+-- Two orders of visits come to the same in whole runs, and in how they end: so the order of visits makes no difference.
 use Rattle.std.proofs.Common.{◌≡◌, ℕ, ◌<◌, ◌≤◌, List, [], ◌∷◌, ◌++◌, length, ℤ, Some, None, Option, ⊎_elim, sym, refl, subst, arith}
 use native.Mathlib.Decide.{ℕ_discrete}
 use Rattle.std.proofs.lemmas.Bool.{cases_lt}
