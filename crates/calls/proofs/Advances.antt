@@ -16,7 +16,7 @@ use Rattle.calls.specs.declared.parts.Ending.TheVariants.{Stopped}
 use Rattle.calls.specs.Meant.{Standing, ended, Recording, with_state}
 use Rattle.calls.specs.Told.{Told, told_stop}
 use Rattle.calls.specs.Calls.{SettledBy, all_asked, no_room, met_stop, last_state, one_more}
-use Rattle.calls.specs.AnyOrder.{SameAnswer, same_answer, both_tell_of_a_stop, StandAlike, both_run, same_end, both_stopped, AdvancesAgree}
+use Rattle.calls.specs.AnyOrder.{SameAnswer, same_answer, both_tell_broken, StandAlike, both_run, both_ended, both_stopped, AdvancesAgree}
 
 -- an advance settles its states in some order
 settled_any : {S : Setting} (L : Limits S.sheet) (i : Visiting) {n : ℕ} {q p : Recording} {w : Work} {a : Told} {s : Standing} → OpenBy in_any_order S q.states w → SettledBy i S n q w a s p → SettledBy in_any_order S n q w a s p
@@ -36,11 +36,11 @@ module _ {S T : Setting} (q : Recording) where
   stopped_alike : {x y : Stop} → MeetSteps S T (stopped x) (stopped y)
       → Advanced (told_stop (length q.states) x) (told_stop (length q.states) y)
       (ended (Stopped (record { stop = x; state = length q.states }))) (ended (Stopped (record { stop = y; state = length q.states }))) q q
-  stopped_alike meet_undetermined = record { recordings = refl; answers = same_answer; standings = same_end }
-  stopped_alike {x = a} {y = b} (meet_broken x y) = record { recordings = refl; answers = both_tell_of_a_stop (length q.states) a b x y; standings = both_stopped x y }
+  stopped_alike meet_undetermined = record { recordings = refl; answers = same_answer; standings = both_ended }
+  stopped_alike {x = a} {y = b} (meet_broken x y) = record { recordings = refl; answers = both_tell_broken (length q.states) a b x y; standings = both_stopped x y }
 
   finished_alike : {x y : List ℤ} {a : Told} {e : Ending} → MeetSteps S T (finished x) (finished y) → Advanced a a (ended e) (ended e) (with_state x q) (with_state y q)
-  finished_alike meet_finished = record { recordings = refl; answers = same_answer; standings = same_end }
+  finished_alike meet_finished = record { recordings = refl; answers = same_answer; standings = both_ended }
 
 no_room_here : {n : ℕ} {P : Type 0} → n ≡ 0 → 0 < n → P
 no_room_here e h = absurd (omega (arith, e, h))

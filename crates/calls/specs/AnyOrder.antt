@@ -18,13 +18,13 @@ use Rattle.calls.specs.Calls.{SettledBy}
 -- two answers that are the same, or of which both tell of a contradiction or of crowding, at one state
 pub data SameAnswer : Told → Told → Type 0 where
   same_answer : {a : Told} → SameAnswer a a
-  both_tell_of_a_stop : (k : ℕ) (x y : Stop) → Broken x → Broken y → SameAnswer (told_stop k x) (told_stop k y)
+  both_tell_broken : (k : ℕ) (x y : Stop) → Broken x → Broken y → SameAnswer (told_stop k x) (told_stop k y)
 
--- two engines that stand alike: both with a run that goes on, with works that are the same but for order; or both with one that has ended
--- in one way, or with a contradiction or crowding at one state
+-- two engines that stand alike: both with a run that goes on, with works that are the same but for order; or both with a run that has ended, in the same
+-- way or each with a contradiction or crowding at one state
 pub data StandAlike : Standing → Standing → Type 0 where
   both_run : {k : ℕ} {w v : Work} → SameButForOrder w v → StandAlike (running k w) (running k v)
-  same_end : {e : Ending} → StandAlike (ended e) (ended e)
+  both_ended : {e : Ending} → StandAlike (ended e) (ended e)
   both_stopped : {k : ℕ} {x y : Stop} → Broken x → Broken y → StandAlike (ended (Stopped (record { stop = x; state = k }))) (ended (Stopped (record { stop = y; state = k })))
 
 -- two advances by as many states, of runs of equal sheets under equal readings, with equal recorders and each in an order of its own, record the same

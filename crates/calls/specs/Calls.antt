@@ -48,7 +48,7 @@ BeginsIn (ended x) capacity e q a d p = Opens capacity e a d p
 abbrev pub Begins : (ℕ → ℕ) → Meant → Recording → Told → Meant → Recording → Type 0
 Begins capacity e q a d p = BeginsIn e.standing capacity e q a d p
 
--- up to so many states more, each settled so, from the work w and the recorder q of an open run: what is answered, how the engine stands then, and the recorder
+-- up to so many states more, each visited in this way, from the work w and the recorder q of an open run: what is answered, how the engine stands then, and the recorder
 pub data SettledBy (i : Visiting) (S : Setting) : ℕ → Recording → Work → Told → Standing → Recording → Type 0 where
   -- no more states are asked for: the run goes on
   all_asked : {q : Recording} {w : Work} → SettledBy i S zero q w (is_open (count (length q.states) ∷ [])) (running (length q.states) w) q
@@ -64,7 +64,7 @@ pub data SettledBy (i : Visiting) (S : Setting) : ℕ → Recording → Work →
   one_more : {n : ℕ} {q p : Recording} {w u : Work} {x : List ℤ} {a : Told} {s : Standing} → 0 < q.room → StepsBy i S (length q.states) w (recorded x u)
       → SettledBy i S n (with_state x q) u a s p → SettledBy i S (suc n) q w a s p
 
--- the same of an engine, which settles them in passes
+-- the same of an engine, which visits in passes
 abbrev pub Settled : Setting → ℕ → Recording → Work → Told → Standing → Recording → Type 0
 Settled S n q w a s p = SettledBy in_passes S n q w a s p
 

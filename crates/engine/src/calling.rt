@@ -20,7 +20,7 @@ use std::alloc::{AllocError, Global};
 
 impl Engine {
     // An idle engine that holds the sheet `var=a 0 0`, `stmt=empty`, `run=0`. Nothing allocates after this.
-    // Every run of it, and of any other engine, keeps the law of runs; and an engine that visits in another order would record the same and answer alike.
+    // Every run of it, and of any other engine, keeps the law of runs. An advance whose states were visited in another order would record the same and answer alike.
     pub fn new(heap: Global) -> Result<Engine, AllocError>
         ensures holds { IfOk result (λ e. meant e ≡ record { sheet = first; standing = idle }) }
         ensures runs { LawOfRuns }

@@ -5,13 +5,13 @@ use Rattle.meaning.specs.declared.parts.Stop.{Stop}
 use Rattle.meaning.specs.Intervals.{Setting}
 use Rattle.meaning.specs.Work.{Work, Outcome}
 use Rattle.meaning.specs.Passes.{Settles}
-use Rattle.meaning.specs.Visiting.{Visits, SettlesAnyhow, Visiting, in_passes, in_any_order, SettlesBy}
+use Rattle.meaning.specs.Visiting.{Visits, SettlesInAnyOrder, Visiting, in_passes, in_any_order, SettlesBy}
 use Rattle.meaning.specs.Runs.{Step, recorded, StepsBy, OpenBy, start, onward, FinishedBy, finish, StoppedBy, stop}
 use Rattle.meaning.proofs.Grown.{settles_total}
 use Rattle.meaning.proofs.Kept.{kept_visits}
 use Rattle.meaning.proofs.Fuel.{roomy_kept}
 use Rattle.meaning.proofs.Steady.{Steady, steady}
-use Rattle.meaning.proofs.AnyVisits.{visits_move, passes_anyhow}
+use Rattle.meaning.proofs.AnyVisits.{visits_move, passes_any_order}
 use Rattle.meaning.proofs.Starts.{Start, settled_from, first_start, next_start}
 
 module _ {S : Setting} (L : Limits S.sheet) where
@@ -21,8 +21,8 @@ module _ {S : Setting} (L : Limits S.sheet) where
       let T : Steady in_any_order S (length r) w (recorded x u) = steady in_any_order S (length r) w (recorded x u) q (λ h. h) in
       subst (λ z. Start S z) T.after (next_start (settled_from L (start_of o) T.settled))
 
-  pub settles_any : (i : Visiting) {k : ℕ} {w : Work} {o : Outcome} → Start S w → SettlesBy i S k w o → SettlesAnyhow S k w o
-  settles_any in_passes A s = passes_anyhow S L A.tidy A.roomy s
+  pub settles_any : (i : Visiting) {k : ℕ} {w : Work} {o : Outcome} → Start S w → SettlesBy i S k w o → SettlesInAnyOrder S k w o
+  settles_any in_passes A s = passes_any_order S L A.tidy A.roomy s
   settles_any in_any_order A s = s
 
   pub steps_any : (i : Visiting) {k : ℕ} {w : Work} {s : Step} → Start S w → StepsBy i S k w s → StepsBy in_any_order S k w s
@@ -39,9 +39,9 @@ module _ {S : Setting} (L : Limits S.sheet) where
   stopped_any i (stop o s) = let a = open_any i o in stop a (steps_any i (start_of a) s)
 
   -- after any visits, others bring the state to an outcome
-  pub comes_to_an_end : {r : List (List ℤ)} {w u : Work} {k : ℕ} → OpenBy in_any_order S r w → Visits S k w u → (o : Outcome) × SettlesAnyhow S k u o
+  pub comes_to_an_end : {r : List (List ℤ)} {w u : Work} {k : ℕ} → OpenBy in_any_order S r w → Visits S k w u → (o : Outcome) × SettlesInAnyOrder S k u o
   comes_to_an_end {u = u} {k = k} o a =
       let A : Start S _ = start_of o in
       let t = (visits_move S L A.tidy a).1 in
       let s : (p : Outcome) × Settles S k u p = settles_total S L k u t in
-      (s.0, passes_anyhow S L t (kept_visits S _ (roomy_kept S) a A.roomy) s.1)
+      (s.0, passes_any_order S L t (kept_visits S _ (roomy_kept S) a A.roomy) s.1)

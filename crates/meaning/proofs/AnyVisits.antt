@@ -9,7 +9,7 @@ use Rattle.meaning.specs.Intervals.{Setting, width, statement_at}
 use Rattle.meaning.specs.Work.{Work, Outcome, stops, goes, unchanged, also, and_then}
 use Rattle.meaning.specs.Effects.{most_duties}
 use Rattle.meaning.specs.Passes.{visit_or, visit_duties, visit_spans, pass_fuel, pass, Settles, rests, breaks, again}
-use Rattle.meaning.specs.Visiting.{OneVisit, to_duty, to_span, Visits, no_visit, one_more, SettlesAnyhow, comes_to_rest, meets_stop}
+use Rattle.meaning.specs.Visiting.{OneVisit, to_duty, to_span, Visits, no_visit, one_visit_more, SettlesInAnyOrder, comes_to_rest, meets_stop}
 use Rattle.meaning.specs.Laws.{Roomy}
 use Rattle.meaning.specs.Order.{◌∈◌, here, there, Tidy}
 use Rattle.meaning.proofs.Lists.{nth_in, nth_within}
@@ -29,16 +29,16 @@ data Leads (S : Setting) (k : ℕ) (w : Work) : Outcome → Type 0 where
 module _ {S : Setting} {k : ℕ} where
   visits_then : {w u v : Work} → Visits S k w u → Visits S k u v → Visits S k w v
   visits_then a no_visit = a
-  visits_then a (one_more b v) = one_more (visits_then a b) v
+  visits_then a (one_visit_more b v) = one_visit_more (visits_then a b) v
 
   -- what was visited before may count
-  pub anyhow_after : {w u : Work} {o : Outcome} → Visits S k w u → SettlesAnyhow S k u o → SettlesAnyhow S k w o
-  anyhow_after a (comes_to_rest b e) = comes_to_rest (visits_then a b) e
-  anyhow_after a (meets_stop b v) = meets_stop (visits_then a b) v
+  pub any_order_after : {w u : Work} {o : Outcome} → Visits S k w u → SettlesInAnyOrder S k u o → SettlesInAnyOrder S k w o
+  any_order_after a (comes_to_rest b e) = comes_to_rest (visits_then a b) e
+  any_order_after a (meets_stop b v) = meets_stop (visits_then a b) v
 
   leads_visit : {w : Work} (o : Outcome) → OneVisit S k w o → Leads S k w o
   leads_visit (stops s) v = leads_stop no_visit v
-  leads_visit (goes u c) v = leads_on (one_more no_visit v)
+  leads_visit (goes u c) v = leads_on (one_visit_more no_visit v)
 
   leads_after : {w u : Work} {o : Outcome} (c : Bool) → Visits S k w u → Leads S k u o → Leads S k w (also c o)
   leads_after c a (leads_on b) = leads_on (visits_then a b)
@@ -62,7 +62,7 @@ module _ {S : Setting} {k : ℕ} where
   visits_of : {w u : Work} {c : Bool} → Leads S k w (goes u c) → Visits S k w u
   visits_of (leads_on a) = a
 
-  stop_of : {w : Work} {s : Stop} → Leads S k w (stops s) → SettlesAnyhow S k w (stops s)
+  stop_of : {w : Work} {s : Stop} → Leads S k w (stops s) → SettlesInAnyOrder S k w (stops s)
   stop_of (leads_stop a v) = meets_stop a v
 
 -- a visit that changes nothing leaves the work
@@ -78,15 +78,15 @@ module _ (S : Setting) (L : Limits S.sheet) where
 
   pub visits_move : {k : ℕ} {w u : Work} → Tidy S w → Visits S k w u → Grows w u × Tidy S u
   visits_move {w = w} t no_visit = (grows_refl w, t)
-  visits_move t (one_more a v) = let r = visits_move t a in let m = grown_of S L (one_visit_moves r.1 v) in (grows_trans r.0 m.0, m.1)
+  visits_move t (one_visit_more a v) = let r = visits_move t a in let m = grown_of S L (one_visit_moves r.1 v) in (grows_trans r.0 m.0, m.1)
 
   -- a visit that changes something lowers the measure
   pub visit_falls : {k : ℕ} {u v : Work} → Tidy S u → OneVisit S k u (goes v true) → left (width S) v < left (width S) u
   visit_falls t v = (grown_of S L (one_visit_moves t v)).2.lt refl
 
   -- a work that visits bring to rest is settled
-  pub anyhow_rests : {k : ℕ} {w u : Work} → Tidy S w → SettlesAnyhow S k w (goes u false) → Resting S k w u
-  anyhow_rests {k} {w} {u} t (comes_to_rest a e) = let m = visits_move t a in record { grown = m.0; tidy = m.1; rest = (pass_rests S k u u e).1 }
+  pub any_order_rests : {k : ℕ} {w u : Work} → Tidy S w → SettlesInAnyOrder S k w (goes u false) → Resting S k w u
+  any_order_rests {k} {w} {u} t (comes_to_rest a e) = let m = visits_move t a in record { grown = m.0; tidy = m.1; rest = (pass_rests S k u u e).1 }
 
   leads_spans : {k : ℕ} (l : List Span) (w : Work) → ((t : Span) → t ∈ l → t ∈ w.spans) → Tidy S w → Leads S k w (visit_spans l w)
   leads_spans [] w i t = leads_on no_visit
@@ -97,11 +97,11 @@ module _ (S : Setting) (L : Limits S.sheet) where
   leads_pass w t h = leads_then (λ u. visit_spans u.spans u) (leads_duties pass_fuel 0 w (omega arith) fuel_is h) (λ u a. leads_spans u.spans u (λ r q. q) (visits_move t a).1)
 
   -- what passes come to, visits in some order come to
-  pub passes_anyhow : {k : ℕ} {w : Work} {o : Outcome} → Tidy S w → Roomy w → Settles S k w o → SettlesAnyhow S k w o
-  passes_anyhow {k} {w} t h (rests {u = u} e) =
+  pub passes_any_order : {k : ℕ} {w : Work} {o : Outcome} → Tidy S w → Roomy w → Settles S k w o → SettlesInAnyOrder S k w o
+  passes_any_order {k} {w} t h (rests {u = u} e) =
       let r : (w ≡ u) × Rest S k w = pass_rests S k w u e in
-      subst (λ z. SettlesAnyhow S k w (goes z false)) r.0 (comes_to_rest no_visit (e ∙ ap unchanged (sym r.0)))
-  passes_anyhow {k} {w} t h (breaks e) = stop_of (subst (λ z. Leads S k w z) e (leads_pass w t h))
-  passes_anyhow {k} {w} t h (again {u = u} e s) =
+      subst (λ z. SettlesInAnyOrder S k w (goes z false)) r.0 (comes_to_rest no_visit (e ∙ ap unchanged (sym r.0)))
+  passes_any_order {k} {w} t h (breaks e) = stop_of (subst (λ z. Leads S k w z) e (leads_pass w t h))
+  passes_any_order {k} {w} t h (again {u = u} e s) =
       let a : Visits S k w u = visits_of (subst (λ z. Leads S k w z) e (leads_pass w t h)) in
-      anyhow_after a (passes_anyhow (visits_move t a).1 (kept_visits S Roomy (roomy_kept S) a h) s)
+      any_order_after a (passes_any_order (visits_move t a).1 (kept_visits S Roomy (roomy_kept S) a h) s)

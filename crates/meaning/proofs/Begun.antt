@@ -6,7 +6,7 @@ use Rattle.value.proofs.Numbers.{Agrees}
 use Rattle.meaning.specs.declared.parts.Span.{Span}
 use Rattle.meaning.specs.Intervals.{Setting, width}
 use Rattle.meaning.specs.Work.{Work, goes}
-use Rattle.meaning.specs.Visiting.{SettlesAnyhow}
+use Rattle.meaning.specs.Visiting.{SettlesInAnyOrder}
 use Rattle.meaning.specs.Runs.{first_work, kept_by, going_on, next_work}
 use Rattle.meaning.specs.Order.{◌∈◌, here, there, Lives, IsEnded}
 use Rattle.meaning.proofs.Known.{IsGiven, EndSays}
@@ -18,7 +18,7 @@ pub record Complete (n : ℕ) (u : Work) : Type 0 where
 
 -- the work u settles state k of the record ρ, which started with the work w
 pub record Rows (S : Setting) (ρ : ℕ → ℕ → ℤ) (k : ℕ) (w u : Work) : Type 0 where
-  pub settled : SettlesAnyhow S k w (goes u false)
+  pub settled : SettlesInAnyOrder S k w (goes u false)
   pub complete : Complete (width S) u
   pub values : (x : ℕ) → x < width S → Agrees (u.known x) (ρ k x)
 

@@ -17,7 +17,7 @@ use Rattle.meaning.proofs.Known.{EndSays}
 use Rattle.meaning.proofs.Rest.{SpanRest}
 use Rattle.meaning.proofs.Moves.{Grows}
 use Rattle.meaning.proofs.Grown.{Resting}
-use Rattle.meaning.proofs.AnyVisits.{anyhow_rests}
+use Rattle.meaning.proofs.AnyVisits.{any_order_rests}
 use Rattle.meaning.proofs.Begun.{Rows, Begins, at_first, one_on, Ends, Stays, going_in, stale, in_going, lives_going}
 use Rattle.meaning.proofs.Exact.{EndOk, Fulfils, reaches, follows, exact}
 
@@ -75,10 +75,10 @@ module _ (S : Setting) (L : Limits S.sheet) {ρ : ℕ → ℕ → ℤ} where
   -- so does every state of a run, and each settled one is at rest
   pub begins_tidy : {k : ℕ} {w : Work} → Begins S ρ k w → Tidy S w
   begins_tidy at_first = first_tidy S.sheet.run
-  begins_tidy (one_on {k = k} {w = w} {u = u} b r e) = next_tidy k w u (anyhow_rests S L (begins_tidy b) r.settled)
+  begins_tidy (one_on {k = k} {w = w} {u = u} b r e) = next_tidy k w u (any_order_rests S L (begins_tidy b) r.settled)
 
   pub row_rests : {k : ℕ} {w u : Work} → Begins S ρ k w → Rows S ρ k w u → Resting S k w u
-  row_rests b r = anyhow_rests S L (begins_tidy b) r.settled
+  row_rests b r = any_order_rests S L (begins_tidy b) r.settled
 
 -- the ends at state k from those of the next
 abbrev back_by : End → ℕ → ℕ → ℕ

@@ -9,7 +9,7 @@ use Rattle.meaning.specs.declared.parts.Span.{Span}
 use Rattle.meaning.specs.declared.parts.Stop.TheVariants.{Contradiction}
 use Rattle.meaning.specs.Intervals.{Setting, width, statement_at, fits}
 use Rattle.meaning.specs.Work.{Work, Outcome, stops, goes, plain}
-use Rattle.meaning.specs.Visiting.{SettlesAnyhow}
+use Rattle.meaning.specs.Visiting.{SettlesInAnyOrder}
 use Rattle.meaning.specs.Runs.{whole_span, first_work, next_work}
 use Rattle.meaning.specs.Order.{◌∈◌, here, there}
 use Rattle.meaning.specs.AnyOrder.{opened_renamed}
@@ -19,7 +19,7 @@ use Rattle.meaning.proofs.Known.{given_is}
 use Rattle.meaning.proofs.Begun.{Rows, Begins, at_first, one_on, Ends, Stays, going_in, end_on, end_last}
 use Rattle.meaning.proofs.Grants.{OuterBelow, DutyPlaced, SpanPlaced, Placed}
 use Rattle.meaning.proofs.PlacedEffects.{FindsPlaces, finds_clash, finds}
-use Rattle.meaning.proofs.PlacedVisits.{anyhow_finds}
+use Rattle.meaning.proofs.PlacedVisits.{any_order_finds}
 use Rattle.meaning.proofs.IntervalGrants.{FollowsOn, holding, holding_lawful}
 
 -- the interval σ, whose last state is m, grants the work of state k, at places of which that of the whole interval is m
@@ -90,8 +90,8 @@ module _ (S : Setting) (L : Limits S.sheet) {ρ σ : ℕ → ℕ → ℤ} {m : �
       placed = record { next_is = refl; values = λ x v e. absurd (none_some v e); ends = λ s. tt; spans = one_span; duties = one_duty; later = λ d q. elim q [ ]; besides = tt }
 
   -- what the work of a state settles to has places too
-  settles_finds : {k : ℕ} {w : Work} {o : Outcome} (B : Fore S ρ σ m k w) → SettlesAnyhow S k w o → FindsPlaces (holding S σ k) B.granted.n B.granted.φ o
-  settles_finds {k} B s = anyhow_finds (holding_lawful S L σ k (G.legal k B.within)) s B.granted.placed
+  settles_finds : {k : ℕ} {w : Work} {o : Outcome} (B : Fore S ρ σ m k w) → SettlesInAnyOrder S k w o → FindsPlaces (holding S σ k) B.granted.n B.granted.φ o
+  settles_finds {k} B s = any_order_finds (holding_lawful S L σ k (G.legal k B.within)) s B.granted.placed
 
   -- so the settled work is granted
   settled : {k : ℕ} {w u : Work} → Fore S ρ σ m k w → Rows S ρ k w u → Granted S σ m k u
@@ -121,7 +121,7 @@ module _ (S : Setting) (L : Limits S.sheet) {ρ σ : ℕ → ℕ → ℤ} {m : �
   fore (one_on b R e) = fore_step (fore b) R e
 
   -- after a contradiction no interval satisfies the sheet
-  pub contradiction_refutes : {k : ℕ} {w : Work} {place : ℕ} → Begins S ρ k w → SettlesAnyhow S k w (stops (Contradiction place)) → ⊥
+  pub contradiction_refutes : {k : ℕ} {w : Work} {place : ℕ} → Begins S ρ k w → SettlesInAnyOrder S k w (stops (Contradiction place)) → ⊥
   contradiction_refutes b r = refuted (settles_finds (fore b) r)
 
   -- a finished record is the whole of every satisfying interval

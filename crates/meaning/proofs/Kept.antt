@@ -1,4 +1,4 @@
--- A fact of works that the five things keep, each visit keeps, and so does a pass.
+-- A fact of works that the five effects keep, each visit keeps, and so does a pass.
 use Rattle.std.proofs.Common.{ℕ, zero, suc, Bool, true, false, cond, List, [], ◌∷◌, ℤ, pos, negsuc, Some, None, Option, subst}
 use Rattle.std.specs.List.{slice_get}
 use Rattle.sheet.specs.declared.parts.Statement.{Statement}
@@ -14,7 +14,7 @@ use Rattle.meaning.specs.Work.{Work, Outcome, stops, goes, also, and_then, plain
 use Rattle.meaning.specs.Effects.{give, put, add, carry, open_span}
 use Rattle.meaning.specs.Rules.{known_for, once_known, when_on, chop_opening, for_opening, while_opening, halt_rule, len_rule, gets_rule, for_rule, while_rule, rule, visit, take_last, hand_on, visit_opened, visit_span}
 use Rattle.meaning.specs.Passes.{visit_or, visit_duties, visit_spans, pass_fuel, pass, Settles, rests, breaks, again}
-use Rattle.meaning.specs.Visiting.{OneVisit, to_duty, to_span, Visits, no_visit, one_more, SettlesAnyhow, comes_to_rest, meets_stop}
+use Rattle.meaning.specs.Visiting.{OneVisit, to_duty, to_span, Visits, no_visit, one_visit_more, SettlesInAnyOrder, comes_to_rest, meets_stop}
 use Rattle.meaning.specs.AnyOrder.{Broken}
 
 -- the fact holds of the work of an outcome, unless it is a stop, which is a contradiction or crowding then
@@ -132,12 +132,12 @@ module _ (S : Setting) (P : Work → Type 0) (K : Kept S P) where
 
   pub kept_visits : {k : ℕ} {w u : Work} → Visits S k w u → P w → P u
   kept_visits no_visit h = h
-  kept_visits (one_more s v) h = kept_one_visit v (kept_visits s h)
+  kept_visits (one_visit_more s v) h = kept_one_visit v (kept_visits s h)
 
   -- and so do visits in any order
-  pub kept_anyhow : {k : ℕ} {w : Work} {o : Outcome} → SettlesAnyhow S k w o → P w → OfWork P o
-  kept_anyhow (comes_to_rest s e) h = kept_visits s h
-  kept_anyhow (meets_stop s v) h = kept_one_visit v (kept_visits s h)
+  pub kept_any_order : {k : ℕ} {w : Work} {o : Outcome} → SettlesInAnyOrder S k w o → P w → OfWork P o
+  kept_any_order (comes_to_rest s e) h = kept_visits s h
+  kept_any_order (meets_stop s v) h = kept_one_visit v (kept_visits s h)
 
   kept_settled : {k : ℕ} {w : Work} {o : Outcome} → Settles S k w o → P w → OfWork P o
   kept_settled {k} {w} (rests e) h = subst (λ (z : Outcome). OfWork P z) e (kept_pass k w h)

@@ -12,13 +12,13 @@ use Rattle.meaning.specs.declared.parts.Stop.{Stop}
 use Rattle.meaning.specs.declared.parts.Stop.TheVariants.{Undetermined}
 use Rattle.meaning.specs.Intervals.{Setting, under, width}
 use Rattle.meaning.specs.Work.{Work, Outcome, stops, goes, plain}
-use Rattle.meaning.specs.Visiting.{SettlesAnyhow, comes_to_rest, meets_stop, in_any_order}
+use Rattle.meaning.specs.Visiting.{SettlesInAnyOrder, comes_to_rest, meets_stop, in_any_order}
 use Rattle.meaning.specs.Runs.{whole_span, first_work, left_open, state_of, next_work, Step, stopped, recorded, finished, closed_by, judged_by, step_of, StepsBy, OpenBy, start, onward}
 use Rattle.meaning.specs.Laws.{Roomy}
 use Rattle.meaning.specs.Order.{◌∈◌, here, there}
 use Rattle.meaning.specs.AnyOrder.{duty_renamed, span_renamed, Broken, SameOutcome, both_rest, neither_rests}
 use Rattle.meaning.proofs.Lists.{longer}
-use Rattle.meaning.proofs.Kept.{kept_anyhow}
+use Rattle.meaning.proofs.Kept.{kept_any_order}
 use Rattle.meaning.proofs.Fuel.{roomy_kept}
 use Rattle.meaning.proofs.PartOf.{Part, AsksAlike, KnowsAsMuch, Distinct, Like, Within, within}
 use Rattle.meaning.proofs.RestGrants.{same_knows}
@@ -45,24 +45,24 @@ pub data Meet (S T : Setting) (k : ℕ) (a b : Work) : Outcome → Outcome → T
   meet_no_rest : {p q : Stop} → Broken p → Broken q → Meet S T k a b (stops p) (stops q)
 
 -- a state that stops, in whichever order, is broken
-stops_broken : {S : Setting} {k : ℕ} {a : Work} {p : Stop} → Start S a → SettlesAnyhow S k a (stops p) → Broken p
-stops_broken {S} A s = kept_anyhow S Roomy (roomy_kept S) s A.roomy
+stops_broken : {S : Setting} {k : ℕ} {a : Work} {p : Stop} → Start S a → SettlesInAnyOrder S k a (stops p) → Broken p
+stops_broken {S} A s = kept_any_order S Roomy (roomy_kept S) s A.roomy
 
 module _ (S T : Setting) (LT : Limits T.sheet) (k : ℕ) (A : AsksAlike S T k) (K : (u : Work) → KnowsAsMuch S T u) where
   -- whatever the one run comes to lies in a rest of the other
-  lies : {a b v : Work} {o : Outcome} (P : Paired S T a b) → SettlesAnyhow T k b (goes v false) → SettlesAnyhow S k a o → Within a.next (send a.spans v.next P.twins.φ) v o
+  lies : {a b v : Work} {o : Outcome} (P : Paired S T a b) → SettlesInAnyOrder T k b (goes v false) → SettlesInAnyOrder S k a o → Within a.next (send a.spans v.next P.twins.φ) v o
   lies {a} {b} {v} P t s =
       part_stays S T k (send a.spans v.next P.twins.φ) a v (part_of_rest S T k P.twins.φ P.twins.ψ a b v A (K v) P.one (settled_from LT P.other t) P.twins.there) s
 
   -- so it is no stop
-  no_stop : {a b v : Work} {p : Stop} (P : Paired S T a b) → SettlesAnyhow T k b (goes v false) → SettlesAnyhow S k a (stops p) → ⊥
+  no_stop : {a b v : Work} {p : Stop} (P : Paired S T a b) → SettlesInAnyOrder T k b (goes v false) → SettlesInAnyOrder S k a (stops p) → ⊥
   no_stop P t s = refuse (lies P t s)
     where
       refuse : {n : ℕ} {φ : ℕ → ℕ} {u : Work} {p : Stop} → Within n φ u (stops p) → ⊥
       refuse h = elim h [ ]
 
 module _ (S T : Setting) (LS : Limits S.sheet) (LT : Limits T.sheet) (k : ℕ) (A : AsksAlike S T k) (B : AsksAlike T S k) (K : (u : Work) → KnowsAsMuch S T u) (H : (u : Work) → KnowsAsMuch T S u) where
-  mutual_of : {a b u v : Work} → Paired S T a b → SettlesAnyhow S k a (goes u false) → SettlesAnyhow T k b (goes v false) → Mutual S T k a b u v
+  mutual_of : {a b u v : Work} → Paired S T a b → SettlesInAnyOrder S k a (goes u false) → SettlesInAnyOrder T k b (goes v false) → Mutual S T k a b u v
   mutual_of {a} {b} {u} {v} P s t =
       let X : Lying a.next (send a.spans v.next P.twins.φ) v u = lying (lies S T LT k A K P t s) in
       let Y : Lying b.next (send b.spans u.next P.twins.ψ) u v = lying (lies T S LS k B H (paired_back P) s t) in
@@ -80,7 +80,7 @@ module _ (S T : Setting) (LS : Limits S.sheet) (LT : Limits T.sheet) (k : ℕ) (
         as_back = Y.same;
       }
 
-  meet : {a b : Work} {o p : Outcome} → Paired S T a b → SettlesAnyhow S k a o → SettlesAnyhow T k b p → Meet S T k a b o p
+  meet : {a b : Work} {o p : Outcome} → Paired S T a b → SettlesInAnyOrder S k a o → SettlesInAnyOrder T k b p → Meet S T k a b o p
   meet P (comes_to_rest x e) (comes_to_rest y f) = meet_at_rest (mutual_of P (comes_to_rest x e) (comes_to_rest y f))
   meet P (comes_to_rest x e) (meets_stop y f) = absurd (no_stop T S LS k B H (paired_back P) (comes_to_rest x e) (meets_stop y f))
   meet P (meets_stop x e) (comes_to_rest y f) = absurd (no_stop S T LT k A K P (comes_to_rest y f) (meets_stop x e))
@@ -173,17 +173,17 @@ module _ (c : Content) (L : Limits c) (f g : ℕ → ℕ → Option ℤ) (R : Sa
   abbrev T : Setting
   T = under c g
 
-  pub meet_at : {a b : Work} {o p : Outcome} (k : ℕ) → Paired S T a b → SettlesAnyhow S k a o → SettlesAnyhow T k b p → Meet S T k a b o p
+  pub meet_at : {a b : Work} {o p : Outcome} (k : ℕ) → Paired S T a b → SettlesInAnyOrder S k a o → SettlesInAnyOrder T k b p → Meet S T k a b o p
   meet_at k =
       meet S T L L k (record { ranges = λ x v. refl; readings = λ x. R x k; statements = λ p. refl }) (record { ranges = λ x v. refl; readings = λ x. sym (R x k); statements = λ p. refl })
       (λ u. same_knows S T u refl) (λ u. same_knows T S u refl)
 
   pub steps_at : {a b : Work} {s t : Step} (k j : ℕ) → k ≡ j → Paired S T a b → StepsBy in_any_order S k a s → StepsBy in_any_order T j b t → MeetSteps S T s t
-  steps_at {b = b} k j e P x y = subst₂ (MeetSteps S T) x.comes y.comes (meet_steps (width S) (meet_at k P x.settles (subst (λ i. SettlesAnyhow T i b y.outcome) (sym e) y.settles)))
+  steps_at {b = b} k j e P x y = subst₂ (MeetSteps S T) x.comes y.comes (meet_steps (width S) (meet_at k P x.settles (subst (λ i. SettlesInAnyOrder T i b y.outcome) (sym e) y.settles)))
 
   pub together : {q r : List (List ℤ)} {w v : Work} → OpenBy in_any_order S q w → OpenBy in_any_order T r v → length q ≡ length r → Together S T q r w v
   together start start h =
-      record { equal = refl; paired = record { one = first_start c.run; other = first_start c.run; twins = record { φ = λ s. s; ψ = λ s. s; there = first_like c.run; back = first_like c.run } } }
+      record { equal = refl; paired = record { one = first_start c.run; other = first_start c.run; twins = record { φ = λ s. s; ψ = λ s. s; there = first_like c.run; back = first_like c.run }; next = refl } }
   together start (onward {r = r} {x = y} b t) h = absurd (omega (arith, longer r y))
   together (onward {r = q} {x = x} a s) start h = absurd (omega (arith, longer q x))
   together (onward {r = q} {w = w} {u = u} {x = x} a s) (onward {r = r} {w = v} {u = z} {x = y} b t) h =

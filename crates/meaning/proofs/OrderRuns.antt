@@ -9,7 +9,7 @@ use Rattle.meaning.specs.declared.parts.Stop.{Stop}
 use Rattle.meaning.specs.Intervals.{Setting, under, width}
 use Rattle.meaning.specs.Work.{Work, Outcome}
 use Rattle.meaning.specs.Passes.{Settles}
-use Rattle.meaning.specs.Visiting.{SettlesAnyhow, Visiting, in_passes, in_any_order, SettlesBy}
+use Rattle.meaning.specs.Visiting.{SettlesInAnyOrder, Visiting, in_passes, in_any_order, SettlesBy}
 use Rattle.meaning.specs.Runs.{first_work, step_of, Step, stopped, recorded, finished, StepsBy, OpenBy, start, onward, FinishedBy, finish, stop, RecordBy, open_record, finished_record}
 use Rattle.meaning.specs.AnyOrder.{EndedBy, has_finished, has_stopped, SameVerdict, both_finished, both_undetermined, both_broken, OrdersEnd, StatesAgree, RunsAgree, OrderMakesNoDifference}
 use Rattle.meaning.proofs.Lists.{longer}
@@ -186,8 +186,8 @@ orders_end : (S : Setting) → Limits S.sheet → OrdersEnd S
 orders_end S L = record {
   passes = λ r w o p s. settles_any L in_passes (start_of L o) s;
   engines = λ r w o. open_any L in_passes o;
-  ends = λ r w u o a. comes_to_an_end L o a;
-  falls = λ r w o. (left (width S), λ u v a. (visit_same, visit_falls S L (visits_move S L (start_of L o).tidy a).1));
+  some_outcome = λ r w u o a. comes_to_an_end L o a;
+  no_endless_change = λ r w o. (left (width S), λ u v a. (visit_same, visit_falls S L (visits_move S L (start_of L o).tidy a).1));
 }
 
 states_agree : (c : Content) (f g : ℕ → ℕ → Option ℤ) → Limits c → SameReadings f g → StatesAgree (under c f) (under c g)
@@ -195,7 +195,7 @@ states_agree c f g L R q r w v a b e =
     let m : Together (under c f) (under c g) q r w v = together c L f g R a b e in (
       m.equal,
       starts_same m.paired,
-      λ o p s t. same_outcome (meet_at c L f g R (length q) m.paired s (subst (λ k. SettlesAnyhow (under c g) k v p) (sym e) t)),
+      λ o p s t. same_outcome (meet_at c L f g R (length q) m.paired s (subst (λ k. SettlesInAnyOrder (under c g) k v p) (sym e) t)),
     )
 
 runs_agree : (c : Content) (f g : ℕ → ℕ → Option ℤ) → Limits c → SameReadings f g → (i j : Visiting) → RunsAgree (under c f) (under c g) i j
@@ -209,4 +209,4 @@ runs_agree c f g L R i j = record {
 }
 
 pub order_makes_no_difference : OrderMakesNoDifference
-order_makes_no_difference = record { ends = orders_end; states = states_agree; runs = runs_agree }
+order_makes_no_difference = record { orders = orders_end; states = states_agree; runs = runs_agree }

@@ -2,11 +2,11 @@
 use Rattle.std.proofs.Common.{ℕ, sym, subst, arith}
 use Rattle.meaning.specs.Intervals.{Setting}
 use Rattle.meaning.specs.Work.{Work, Outcome}
-use Rattle.meaning.specs.Visiting.{SettlesAnyhow}
+use Rattle.meaning.specs.Visiting.{SettlesInAnyOrder}
 use Rattle.meaning.proofs.PartOf.{NoDoubles, Within, within, PartOf}
 use Rattle.meaning.proofs.Grants.{Placed, Lawful}
 use Rattle.meaning.proofs.PlacedEffects.{FindsPlaces, finds_full, finds_clash, finds}
-use Rattle.meaning.proofs.PlacedVisits.{anyhow_finds}
+use Rattle.meaning.proofs.PlacedVisits.{any_order_finds}
 use Rattle.meaning.proofs.RestGrants.{rest_grants, placed_of, part_of}
 use Rattle.meaning.proofs.OneToOne.{rest_lawful}
 
@@ -22,5 +22,5 @@ module _ (S T : Setting) (k : ℕ) (φ : ℕ → ℕ) (w u : Work) (H : PartOf S
   lies_within (finds_clash f) = absurd f
   lies_within (finds {w = v} m ψ l a Y) = within ψ (omega (arith, l, Y.next_is)) a (part_of S T k u H.knows H.rest.tidy Y) (subst (λ z. NoDoubles u z ψ v) (sym Y.next_is) Y.besides)
 
-  pub part_stays : {o : Outcome} → SettlesAnyhow S k w o → Within w.next φ u o
-  part_stays s = lies_within (anyhow_finds law s placed)
+  pub part_stays : {o : Outcome} → SettlesInAnyOrder S k w o → Within w.next φ u o
+  part_stays s = lies_within (any_order_finds law s placed)

@@ -12,7 +12,7 @@ use Rattle.meaning.specs.Intervals.{Setting, statement_at}
 use Rattle.meaning.specs.Work.{Work, Outcome, goes, and_then, plain, numbered}
 use Rattle.meaning.specs.Effects.{give, put, add, carry}
 use Rattle.meaning.specs.Rules.{known_for, once_known, when_on, chop_opening, for_opening, while_opening, halt_rule, len_rule, gets_rule, for_rule, while_rule, rule, visit, take_last, hand_on, visit_opened, visit_span}
-use Rattle.meaning.specs.Visiting.{OneVisit, to_duty, to_span, Visits, no_visit, one_more, SettlesAnyhow, comes_to_rest, meets_stop}
+use Rattle.meaning.specs.Visiting.{OneVisit, to_duty, to_span, Visits, no_visit, one_visit_more, SettlesInAnyOrder, comes_to_rest, meets_stop}
 use Rattle.meaning.specs.Order.{◌∈◌}
 use Rattle.meaning.proofs.Tests.{truth_yes, truth_no, zero_or_not}
 use Rattle.meaning.specs.AnyOrder.{duty_renamed, opening_renamed, opened_renamed}
@@ -131,9 +131,9 @@ module _ {S : Setting} {k : ℕ} {G : Grants} (A : Lawful S k G) where
 
   visits_find : {n : ℕ} {φ : ℕ → ℕ} {w u : Work} → Visits S k w u → Placed G n φ w → FindsPlaces G n φ (goes u false)
   visits_find no_visit X = stay X
-  visits_find (one_more s v) X = finds_next (visits_find s X) (λ m ψ Y. finds_quietly (one_visit_finds v Y))
+  visits_find (one_visit_more s v) X = finds_next (visits_find s X) (λ m ψ Y. finds_quietly (one_visit_finds v Y))
 
   -- visits in any order keep a work placed
-  pub anyhow_finds : {n : ℕ} {φ : ℕ → ℕ} {w : Work} {o : Outcome} → SettlesAnyhow S k w o → Placed G n φ w → FindsPlaces G n φ o
-  anyhow_finds (comes_to_rest s e) X = visits_find s X
-  anyhow_finds (meets_stop s v) X = finds_next (visits_find s X) (λ m ψ Y. one_visit_finds v Y)
+  pub any_order_finds : {n : ℕ} {φ : ℕ → ℕ} {w : Work} {o : Outcome} → SettlesInAnyOrder S k w o → Placed G n φ w → FindsPlaces G n φ o
+  any_order_finds (comes_to_rest s e) X = visits_find s X
+  any_order_finds (meets_stop s v) X = finds_next (visits_find s X) (λ m ψ Y. one_visit_finds v Y)

@@ -1,5 +1,5 @@
 -- Two rests that lie inside each other are the same but for order: they know the same, leave the same open, and so do the works that the next states start with.
-use Rattle.std.proofs.Common.{◌≡◌, ℕ, zero, suc, ◌<◌, Bool, true, false, cond, List, [], ◌∷◌, map, ℤ, pos, Some, None, Option, ◌⊎◌, inl, inr, sym, refl, ap, ◌∙◌, subst, arith}
+use Rattle.std.proofs.Common.{◌≡◌, ℕ, zero, suc, ◌<◌, Bool, true, false, cond, List, [], ◌∷◌, map, length, ℤ, pos, Some, None, Option, ◌⊎◌, inl, inr, sym, refl, ap, ◌∙◌, subst, arith}
 use Rattle.std.specs.List.{range_with_len}
 use Rattle.std.specs.Option.{unwrap_or}
 use Rattle.std.proofs.lemmas.Bool.{and_from}
@@ -17,7 +17,7 @@ use Rattle.meaning.specs.AnyOrder.{duty_renamed, opening_renamed, opened_renamed
 use Rattle.meaning.proofs.Steady.{all_ended_says}
 use Rattle.meaning.proofs.Begun.{Stays, going_in, stale, in_going, lives_going}
 use Rattle.meaning.proofs.PartOf.{Part, Distinct, Neat, Like, Twins}
-use Rattle.meaning.proofs.Distinct.{permuted}
+use Rattle.meaning.proofs.Distinct.{permuted, fits_in}
 use Rattle.meaning.proofs.Starts.{Start, Born, SettledFrom, next_start}
 use Rattle.meaning.proofs.InRest.{send, send_held}
 
@@ -52,9 +52,12 @@ module _ {S : Setting} {φ ψ : ℕ → ℕ} {w v : Work} (A : Orderly S w) (H :
       let b : opened_renamed ψ (opened_renamed φ t.opening) ≡ t.opening = opened_back t.serial t.opening (A.tidy.nested t q) in
       λ i. record { serial = a i; opening = b i; fresh = t.fresh }
 
+one_of : {S : Setting} {φ ψ : ℕ → ℕ} {w v : Work} → Orderly S w → Sent φ ψ w v → (t r : Span) → t ∈ w.spans → r ∈ w.spans → span_renamed φ t ≡ span_renamed φ r → t ≡ r
+one_of {φ = φ} {ψ = ψ} A H t r p q e = sym (span_back A H t p) ∙ ap (span_renamed ψ) e ∙ span_back A H r q
+
 pub same_but_for_order : {S T : Setting} {φ ψ : ℕ → ℕ} {w v : Work} → Orderly S w → Orderly T v → Sent φ ψ w v → Sent ψ φ v w → φ 0 ≡ 0
-    → ((x : ℕ) → w.known x ≡ v.known x) → ((s : ℕ) → Lives w.spans s → w.ends s ≡ v.ends (φ s)) → SameButForOrder w v
-same_but_for_order {φ = φ} {ψ = ψ} {w = w} {v = v} A B H I z k e = record {
+    → ((x : ℕ) → w.known x ≡ v.known x) → ((s : ℕ) → Lives w.spans s → w.ends s ≡ v.ends (φ s)) → w.next ≡ v.next → SameButForOrder w v
+same_but_for_order {φ = φ} {ψ = ψ} {w = w} {v = v} A B H I z k e x = record {
   rename = φ;
   back = ψ;
   undone = H.back;
@@ -64,6 +67,10 @@ same_but_for_order {φ = φ} {ψ = ψ} {w = w} {v = v} A B H I z k e = record {
   spans = permuted (span_renamed φ) (span_renamed ψ) w.spans v.spans A.neat.spans B.neat.spans H.spans I.spans (span_back A H) (span_back B I);
   duties = permuted (duty_renamed φ) (duty_renamed ψ) w.duties v.duties A.duties B.duties H.duties I.duties (λ d q. duty_back A H d (A.tidy.duty_lives d q)) (λ d q. duty_back B I d (B.tidy.duty_lives d q));
   later = permuted (duty_renamed φ) (duty_renamed ψ) w.later v.later A.neat.later B.neat.later H.later I.later (λ d q. duty_back A H d (A.tidy.later_lives d q).0) (λ d q. duty_back B I d (B.tidy.later_lives d q).0);
+  owed = A.tidy.duty_lives;
+  carried = λ d q. (A.tidy.later_lives d q).0;
+  outer = λ t g q o. (subst (λ z. Nested w.spans t.serial z) o (A.tidy.nested t q)).1;
+  next = x;
 }
 
 -- ---- two works that a state starts with
@@ -73,6 +80,7 @@ pub record Paired (S T : Setting) (w v : Work) : Type 0 where
   pub one : Start S w
   pub other : Start T v
   pub twins : Twins w v
+  pub next : w.next ≡ v.next
 
 start_orderly : {S : Setting} {w : Work} → Start S w → Orderly S w
 start_orderly A = record { tidy = A.tidy; neat = A.neat; duties = A.duties }
@@ -86,7 +94,7 @@ like_sent A H = record { spans = H.spans; duties = H.duties; later = λ d q. not
 pub starts_same : {S T : Setting} {w v : Work} → Paired S T w v → SameButForOrder w v
 starts_same P =
     same_but_for_order (start_orderly P.one) (start_orderly P.other) (like_sent P.one P.twins.there) (like_sent P.other P.twins.back) P.twins.there.whole
-    (λ x. P.one.unknown x ∙ sym (P.other.unknown x)) (λ s l. P.one.free s ∙ sym (P.other.free (P.twins.φ s)))
+    (λ x. P.one.unknown x ∙ sym (P.other.unknown x)) (λ s l. P.one.free s ∙ sym (P.other.free (P.twins.φ s))) P.next
 
 -- ---- two rests
 
@@ -105,7 +113,7 @@ pub record Mutual (S T : Setting) (k : ℕ) (w b u v : Work) : Type 0 where
   pub as_back : (s : ℕ) → s < b.next → ω s ≡ send b.spans u.next starts.twins.ψ s
 
 abbrev pub paired_back : {S T : Setting} {w v : Work} → Paired S T w v → Paired T S v w
-paired_back P = record { one = P.other; other = P.one; twins = record { φ = P.twins.ψ; ψ = P.twins.φ; there = P.twins.back; back = P.twins.there } }
+paired_back P = record { one = P.other; other = P.one; twins = record { φ = P.twins.ψ; ψ = P.twins.φ; there = P.twins.back; back = P.twins.there }; next = sym P.next }
 
 abbrev mutual_back : {S T : Setting} {k : ℕ} {w b u v : Work} → Mutual S T k w b u v → Mutual T S k b w v u
 mutual_back M = record {
@@ -258,16 +266,34 @@ module _ {S T : Setting} {k : ℕ} {w b u v : Work} (M : Mutual S T k w b u v) w
   pub state_same : (n : ℕ) → state_of n u ≡ state_of n v
   state_same n = λ i. map (λ x. unwrap_or (known_same x i) (pos 0)) (range_with_len 0 n)
 
+  as_many : length u.spans ≡ length v.spans
+  as_many = omega (
+    arith,
+    fits_in (span_renamed M.χ) u.spans v.spans M.from_one.neat.spans (one_of (rest_orderly M) (rest_sent M)) M.there.spans,
+    fits_in (span_renamed M.ω) v.spans u.spans M.from_other.neat.spans (one_of (rest_orderly (mutual_back M)) (rest_sent (mutual_back M))) M.back.spans,
+  )
+
+  begun_as_many : length w.spans ≡ length b.spans
+  begun_as_many = omega (
+    arith,
+    fits_in (span_renamed M.starts.twins.φ) w.spans b.spans M.starts.one.neat.spans (one_of (start_orderly M.starts.one) (like_sent M.starts.one M.starts.twins.there)) M.starts.twins.there.spans,
+    fits_in (span_renamed M.starts.twins.ψ) b.spans w.spans M.starts.other.neat.spans (one_of (start_orderly M.starts.other) (like_sent M.starts.other M.starts.twins.back)) M.starts.twins.back.spans,
+  )
+
+  next_serial : u.next ≡ v.next
+  next_serial = omega (arith, M.from_one.counted, M.from_other.counted, as_many, begun_as_many, M.starts.next)
+
   pub rests_same : SameButForOrder u v
-  rests_same = same_but_for_order (rest_orderly M) (rest_orderly (mutual_back M)) (rest_sent M) (rest_sent (mutual_back M)) (whole_stays M) known_same ends_same
+  rests_same = same_but_for_order (rest_orderly M) (rest_orderly (mutual_back M)) (rest_sent M) (rest_sent (mutual_back M)) (whole_stays M) known_same ends_same next_serial
 
   pub next_same : SameButForOrder (next_work u) (next_work v)
   next_same =
-      same_but_for_order (start_orderly (next_start M.from_one)) (start_orderly (next_start M.from_other)) (next_sent M) (next_sent (mutual_back M)) (whole_stays M) (λ x. refl) (λ s l. refl)
+      same_but_for_order (start_orderly (next_start M.from_one)) (start_orderly (next_start M.from_other)) (next_sent M) (next_sent (mutual_back M)) (whole_stays M) (λ x. refl) (λ s l. refl) next_serial
 
   pub next_paired : u.ends 0 ≡ On → Paired S T (next_work u) (next_work v)
   next_paired o = record {
     one = next_start M.from_one;
     other = next_start M.from_other;
     twins = record { φ = M.χ; ψ = M.ω; there = next_like M o; back = next_like (mutual_back M) (sym whole_same ∙ o) };
+    next = next_serial;
   }

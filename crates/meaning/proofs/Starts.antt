@@ -1,5 +1,5 @@
 -- What a state starts with, and what it settles to, along a run.
-use Rattle.std.proofs.Common.{◌≡◌, ℕ, ◌<◌, true, false, List, [], ◌∷◌, Some, None, ◌⊎◌, inl, inr, sym, refl, ap, ◌∙◌, subst, arith}
+use Rattle.std.proofs.Common.{◌≡◌, ℕ, ◌+◌, ◌<◌, true, false, List, [], ◌∷◌, length, Some, None, ◌⊎◌, inl, inr, sym, refl, ap, ◌∙◌, subst, arith}
 use Rattle.std.proofs.lemmas.Bool.{both_ways}
 use Rattle.sheet.specs.Limits.{Limits}
 use Rattle.value.specs.declared.parts.End.{End}
@@ -9,17 +9,17 @@ use Rattle.meaning.specs.declared.parts.Span.{Span}
 use Rattle.meaning.specs.Intervals.{Setting}
 use Rattle.meaning.specs.Work.{Work, goes}
 use Rattle.meaning.specs.Passes.{pass}
-use Rattle.meaning.specs.Visiting.{SettlesAnyhow, comes_to_rest}
+use Rattle.meaning.specs.Visiting.{SettlesInAnyOrder, comes_to_rest}
 use Rattle.meaning.specs.Runs.{whole_span, first_work, kept_by, going_on, next_work}
 use Rattle.meaning.specs.Laws.{Roomy}
 use Rattle.meaning.specs.Order.{◌∈◌, here, there, Tidy}
-use Rattle.meaning.proofs.Lists.{all_snoc}
-use Rattle.meaning.proofs.Kept.{Kept, kept_anyhow}
+use Rattle.meaning.proofs.Lists.{all_snoc, longer}
+use Rattle.meaning.proofs.Kept.{Kept, kept_any_order}
 use Rattle.meaning.proofs.Changes.{kept_by_changes}
 use Rattle.meaning.proofs.Fuel.{roomy_kept, next_roomy}
 use Rattle.meaning.proofs.Begun.{Stays, going_in, stale}
 use Rattle.meaning.proofs.Grown.{Resting}
-use Rattle.meaning.proofs.AnyVisits.{anyhow_rests}
+use Rattle.meaning.proofs.AnyVisits.{any_order_rests}
 use Rattle.meaning.proofs.Finish.{next_tidy, first_tidy}
 use Rattle.meaning.proofs.PartOf.{AtRest, Distinct, Neat}
 use Rattle.meaning.proofs.Neat.{neat_kept}
@@ -53,6 +53,19 @@ since_kept S w = kept_by_changes (record {
   span = λ g u _ _ _ h. all_snoc (λ t. (t ∈ w.spans) ⊎ Born t) _ u.spans h (inr (record { newly = refl; how = g; opened = refl }));
 })
 
+-- as many serials were taken from w to u as there are spans more
+abbrev pub Counted : Work → Work → Type 0
+Counted w u = u.next + length w.spans ≡ w.next + length u.spans
+
+pub counted_kept : (S : Setting) (w : Work) → Kept S (Counted w)
+counted_kept S w = kept_by_changes (record {
+  value = λ x v u _ h. h;
+  ending = λ e s u _ h. h;
+  duty = λ d u _ _ h. h;
+  carried = λ d u _ _ h. h;
+  span = λ g u _ _ _ h. omega (arith, h, longer u.spans (record { serial = u.next; opening = Some g; fresh = true }));
+})
+
 -- what a state that starts with w settles to, by visits in some order
 pub record SettledFrom (S : Setting) (k : ℕ) (w u : Work) : Type 0 where
   pub resting : Resting S k w u
@@ -60,19 +73,21 @@ pub record SettledFrom (S : Setting) (k : ℕ) (w u : Work) : Type 0 where
   pub neat : Neat u
   pub roomy : Roomy u
   pub since : Since w u
+  pub counted : Counted w u
 
-quiet_of : {S : Setting} {k : ℕ} {w u : Work} → SettlesAnyhow S k w (goes u false) → pass S k u ≡ goes u false
+quiet_of : {S : Setting} {k : ℕ} {w u : Work} → SettlesInAnyOrder S k w (goes u false) → pass S k u ≡ goes u false
 quiet_of (comes_to_rest a e) = e
 
-pub settled_from : {S : Setting} → Limits S.sheet → {k : ℕ} {w u : Work} → Start S w → SettlesAnyhow S k w (goes u false) → SettledFrom S k w u
+pub settled_from : {S : Setting} → Limits S.sheet → {k : ℕ} {w u : Work} → Start S w → SettlesInAnyOrder S k w (goes u false) → SettledFrom S k w u
 settled_from {S} L {k} {w} {u} A s =
-    let R : Resting S k w u = anyhow_rests S L A.tidy s in
+    let R : Resting S k w u = any_order_rests S L A.tidy s in
     record {
       resting = R;
       at_rest = record { tidy = R.tidy; quiet = quiet_of s };
-      neat = kept_anyhow S Neat (neat_kept S) s A.neat;
-      roomy = kept_anyhow S Roomy (roomy_kept S) s A.roomy;
-      since = kept_anyhow S (Since w) (since_kept S w) s (λ t q. inl q);
+      neat = kept_any_order S Neat (neat_kept S) s A.neat;
+      roomy = kept_any_order S Roomy (roomy_kept S) s A.roomy;
+      since = kept_any_order S (Since w) (since_kept S w) s (λ t q. inl q);
+      counted = kept_any_order S (Counted w) (counted_kept S w) s refl;
     }
 
 -- no two spans of the list have one serial

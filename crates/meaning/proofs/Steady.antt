@@ -11,7 +11,7 @@ use Rattle.meaning.specs.declared.parts.Span.{Span}
 use Rattle.meaning.specs.Intervals.{Setting, width}
 use Rattle.meaning.specs.Work.{Work, Outcome, stops, goes}
 use Rattle.meaning.specs.Passes.{Settles}
-use Rattle.meaning.specs.Visiting.{SettlesAnyhow, comes_to_rest, Visiting, in_passes, in_any_order, SettlesBy}
+use Rattle.meaning.specs.Visiting.{SettlesInAnyOrder, comes_to_rest, Visiting, in_passes, in_any_order, SettlesBy}
 use Rattle.meaning.specs.Runs.{next_work, lowest_by, lowest_unknown, is_ended, all_ended, left_open, state_of, Step, stopped, recorded, finished, closed_by, judged_by, step_of, StepsBy}
 use Rattle.meaning.specs.Order.{◌∈◌, here, there, IsEnded}
 use Rattle.meaning.proofs.Lists.{none_some}
@@ -94,12 +94,12 @@ closed_of On n w s e h = (ap whole_end e, ap state_in e, ap (work_after (next_wo
 closed_of Last n w s e h = (ap whole_end e, ap state_in e, ap (work_after (next_work w)) e)
 
 -- a settled work is unchanged in the end
-anyhow_quiet : {S : Setting} {k : ℕ} {w v : Work} {c : Bool} → SettlesAnyhow S k w (goes v c) → SettlesAnyhow S k w (goes v false)
-anyhow_quiet (comes_to_rest a e) = comes_to_rest a e
+any_order_quiet : {S : Setting} {k : ℕ} {w v : Work} {c : Bool} → SettlesInAnyOrder S k w (goes v c) → SettlesInAnyOrder S k w (goes v false)
+any_order_quiet (comes_to_rest a e) = comes_to_rest a e
 
 quiet_by : (i : Visiting) (S : Setting) (k : ℕ) (w v : Work) (c : Bool) → SettlesBy i S k w (goes v c) → SettlesBy i S k w (goes v false)
 quiet_by in_passes S k w v c q = subst (λ z. Settles S k w (goes v z)) (settles_quiet q) q
-quiet_by in_any_order S k w v c q = anyhow_quiet q
+quiet_by in_any_order S k w v c q = any_order_quiet q
 
 steady_by : (i : Visiting) (S : Setting) (k : ℕ) (w : Work) (s : Step) (o : Outcome) → SettlesBy i S k w o → step_of (width S) o ≡ s → (Stopping s → ⊥) → Steady i S k w s
 steady_by i S k w s (stops p) q e h = absurd (h (subst Stopping e tt))

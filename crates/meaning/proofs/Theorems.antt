@@ -17,7 +17,7 @@ use Rattle.meaning.specs.Intervals.{Setting, width, statement_at, fits, value_in
 use Rattle.meaning.specs.Holds.{Satisfies}
 use Rattle.meaning.specs.Work.{Work, Outcome, stops, goes}
 use Rattle.meaning.specs.Passes.{Settles}
-use Rattle.meaning.specs.Visiting.{SettlesAnyhow, in_passes, in_any_order}
+use Rattle.meaning.specs.Visiting.{SettlesInAnyOrder, in_passes, in_any_order}
 use Rattle.meaning.specs.Runs.{left_open, Step, stopped, recorded, finished, closed_by, judged_by, step_of, Steps, StoppedBy, stop}
 use Rattle.meaning.specs.Laws.{SettlingEnds, FinishedIsTheOne, OpenBeginsAll, ContradictionLeavesNone}
 use Rattle.meaning.specs.Order.{FitSays}
@@ -158,7 +158,7 @@ open_begins_all S L i r w o =
 contradicted : (S : Setting) → Limits S.sheet → {r : List (List ℤ)} {s : Stop} → StoppedBy in_any_order S r s → (p : ℕ) → s ≡ Contradiction p → (l : List (List ℤ)) → Satisfies S l → ⊥
 contradicted S L (stop {r = r} {w = w} o q) p e l h =
     contradiction_refutes S L (as_fits S L l h) (started o).begun
-    (subst (λ x. SettlesAnyhow S (length r) w x) (contradiction_of (width S) p q.outcome (q.comes ∙ ap stopped e)) q.settles)
+    (subst (λ x. SettlesInAnyOrder S (length r) w x) (contradiction_of (width S) p q.outcome (q.comes ∙ ap stopped e)) q.settles)
 
 pub contradiction_leaves_none : ContradictionLeavesNone
 contradiction_leaves_none S L i r p s l h = contradicted S L (stopped_any L i s) p refl l h

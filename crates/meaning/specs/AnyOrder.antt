@@ -1,4 +1,4 @@
--- The order in which a state's work is visited makes no difference: in what two orders may differ, and the law that they differ in nothing else. Assumes nothing.
+-- The order in which a state's work is visited makes no difference: what two orders may come to differ in, and the law that they differ in nothing else. Assumes nothing.
 use Rattle.std.specs.Prelude.{◌≡◌, ℕ, ◌<◌, ◌≤◌, true, false, List, map, length, ℤ, Some, None, Option, IsPermutation}
 use Rattle.sheet.specs.Content.{Content}
 use Rattle.sheet.specs.Limits.{Limits}
@@ -12,9 +12,9 @@ use Rattle.meaning.specs.declared.parts.Stop.TheVariants.{Contradiction, Undeter
 use Rattle.meaning.specs.Intervals.{Setting, under}
 use Rattle.meaning.specs.Work.{Work, Outcome, stops, goes}
 use Rattle.meaning.specs.Passes.{Settles}
-use Rattle.meaning.specs.Visiting.{OneVisit, Visits, SettlesAnyhow, Visiting, in_any_order}
+use Rattle.meaning.specs.Visiting.{OneVisit, Visits, SettlesInAnyOrder, Visiting, in_any_order}
 use Rattle.meaning.specs.Runs.{next_work, left_open, Open, OpenBy, FinishedBy, StoppedBy, RecordBy}
-use Rattle.meaning.specs.Members.{Lives}
+use Rattle.meaning.specs.Members.{◌∈◌, Lives}
 
 -- a duty whose span has another serial
 abbrev pub duty_renamed : (ℕ → ℕ) → Duty → Duty
@@ -46,15 +46,21 @@ pub record SameButForOrder (w v : Work) : Type 0 where
   pub spans : IsPermutation (map (span_renamed rename) w.spans) v.spans
   pub duties : IsPermutation (map (duty_renamed rename) w.duties) v.duties
   pub later : IsPermutation (map (duty_renamed rename) w.later) v.later
+  -- every serial that is used is that of a span, so none is renamed at will
+  pub owed : (d : Duty) → d ∈ w.duties → Lives w.spans d.span
+  pub carried : (d : Duty) → d ∈ w.later → Lives w.spans d.span
+  pub outer : (t : Span) (g : Opening) → t ∈ w.spans → t.opening ≡ Some g → Lives w.spans g.follower.span
+  -- the next span gets the same serial
+  pub next : w.next ≡ v.next
 
--- a stop of a state that does not come to rest
+-- a stop that a visit can meet: a contradiction or crowding
 abbrev pub Broken : Stop → Type 0
 Broken (Contradiction p) = Unit {0}
 Broken (Undetermined x) = ⊥
 Broken Crowded = Unit {0}
 
--- what two orders of visits come to: both come to rest, with works that are the same but for order, leave the same open, and start the next
--- state with works that are the same but for order; or neither comes to rest
+-- two outcomes that are the same but for order: both orders come to rest, with works that are so, leave the same open, and start the next state with
+-- works that are so; or neither comes to rest
 pub data SameOutcome : Outcome → Outcome → Type 0 where
   both_rest : {u v : Work} → SameButForOrder u v → ((n : ℕ) → left_open n u ≡ left_open n v) → SameButForOrder (next_work u) (next_work v) → SameOutcome (goes u false) (goes v false)
   neither_rests : {a b : Stop} → Broken a → Broken b → SameOutcome (stops a) (stops b)
@@ -73,22 +79,22 @@ pub data SameVerdict : Option Stop → Option Stop → Type 0 where
 -- every order of visits leads to an end: of the states of one setting's runs
 pub record OrdersEnd (S : Setting) : Type 0 where
   -- passes are one of the orders: what they come to, some order comes to, and so it is along whole runs
-  pub passes : (r : List (List ℤ)) (w : Work) → OpenBy in_any_order S r w → (o : Outcome) → Settles S (length r) w o → SettlesAnyhow S (length r) w o
+  pub passes : (r : List (List ℤ)) (w : Work) → OpenBy in_any_order S r w → (o : Outcome) → Settles S (length r) w o → SettlesInAnyOrder S (length r) w o
   pub engines : (r : List (List ℤ)) (w : Work) → Open S r w → OpenBy in_any_order S r w
   -- whatever has been visited so far, there are visits that bring the state to an outcome
-  pub ends : (r : List (List ℤ)) (w u : Work) → OpenBy in_any_order S r w → Visits S (length r) w u → (o : Outcome) × SettlesAnyhow S (length r) u o
-  -- and none change it for ever: a visit that is said to change nothing does so, and each other lowers a number, which says how much is left to find out
-  pub falls : (r : List (List ℤ)) (w : Work) → OpenBy in_any_order S r w
-      → (left : Work → ℕ) × ((u v : Work) → Visits S (length r) w u → (OneVisit S (length r) u (goes v false) → v ≡ u) × (OneVisit S (length r) u (goes v true) → left v < left u))
+  pub some_outcome : (r : List (List ℤ)) (w u : Work) → OpenBy in_any_order S r w → Visits S (length r) w u → (o : Outcome) × SettlesInAnyOrder S (length r) u o
+  -- and no order changes it for ever: a visit that reports no change leaves the work as it is, and each other lowers a measure
+  pub no_endless_change : (r : List (List ℤ)) (w : Work) → OpenBy in_any_order S r w
+      → (measure : Work → ℕ) × ((u v : Work) → Visits S (length r) w u → (OneVisit S (length r) u (goes v false) → v ≡ u) × (OneVisit S (length r) u (goes v true) → measure v < measure u))
 
 -- two runs, each state of which was visited in an order of its own: at equal counts the records are equal, and the next states start with works that
--- are the same but for order, and come to the same outcome
+-- are the same but for order, and come to outcomes that are the same but for order
 abbrev pub StatesAgree : Setting → Setting → Type 0
 StatesAgree S T =
     (q r : List (List ℤ)) (w v : Work) → OpenBy in_any_order S q w → OpenBy in_any_order T r v → length q ≡ length r
-    → (q ≡ r) × SameButForOrder w v × ((o p : Outcome) → SettlesAnyhow S (length q) w o → SettlesAnyhow T (length r) v p → SameOutcome o p)
+    → (q ≡ r) × SameButForOrder w v × ((o p : Outcome) → SettlesInAnyOrder S (length q) w o → SettlesInAnyOrder T (length r) v p → SameOutcome o p)
 
--- whole runs, the one visited so and the other so
+-- whole runs, of the one and of the other way of visiting
 pub record RunsAgree (S T : Setting) (i j : Visiting) : Type 0 where
   -- equal counts, equal records
   pub records : (q r : List (List ℤ)) → RecordBy i S q → RecordBy j T r → length q ≡ length r → q ≡ r
@@ -97,12 +103,12 @@ pub record RunsAgree (S T : Setting) (i j : Visiting) : Type 0 where
   -- where the one has finished, or met a stop, the other goes no further
   pub finished : (q r : List (List ℤ)) (w : Work) → FinishedBy i S q → OpenBy j T r w → length r < length q
   pub stopped : (q r : List (List ℤ)) (s : Stop) (w : Work) → StoppedBy i S q s → OpenBy j T r w → length r ≤ length q
-  -- what the one comes to, another comes to
+  -- what a run has recorded, some run of the other kind records too; and where it has ended, some run of the other kind ends with the same record and a like verdict
   pub reaches : (q : List (List ℤ)) (w : Work) → OpenBy i S q w → (v : Work) × OpenBy j T q v
   pub reaches_end : (q : List (List ℤ)) (x : Option Stop) → EndedBy i S q x → (y : Option Stop) × EndedBy j T q y × SameVerdict x y
 
 -- the order of visits makes no difference: for every sheet that keeps the limits, and all readings; equal readings where two runs are compared
 pub record OrderMakesNoDifference : Type 0 where
-  pub ends : (S : Setting) → Limits S.sheet → OrdersEnd S
+  pub orders : (S : Setting) → Limits S.sheet → OrdersEnd S
   pub states : (c : Content) (f g : ℕ → ℕ → Option ℤ) → Limits c → SameReadings f g → StatesAgree (under c f) (under c g)
   pub runs : (c : Content) (f g : ℕ → ℕ → Option ℤ) → Limits c → SameReadings f g → (i j : Visiting) → RunsAgree (under c f) (under c g) i j

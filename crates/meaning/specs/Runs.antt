@@ -99,33 +99,33 @@ abbrev pub step_of : ℕ → Outcome → Step
 step_of n (stops s) = stopped s
 step_of n (goes w c) = judged_by (left_open n w) n w
 
--- state k, started with the work w and settled so, comes to this
-pub record StepsBy (v : Visiting) (S : Setting) (k : ℕ) (w : Work) (s : Step) : Type 0 where
+-- state k, started with the work w and visited in this way, comes to this
+pub record StepsBy (i : Visiting) (S : Setting) (k : ℕ) (w : Work) (s : Step) : Type 0 where
   pub outcome : Outcome
-  pub settles : SettlesBy v S k w outcome
+  pub settles : SettlesBy i S k w outcome
   pub comes : step_of (width S) outcome ≡ s
 
--- a run that goes on, its states settled so: its record so far, and the work that its next state starts with
-pub data OpenBy (v : Visiting) (S : Setting) : List (List ℤ) → Work → Type 0 where
+-- a run that goes on, its states visited in this way: its record so far, and the work that its next state starts with
+pub data OpenBy (i : Visiting) (S : Setting) : List (List ℤ) → Work → Type 0 where
   -- nothing is recorded
-  start : OpenBy v S [] (first_work S.sheet.run)
+  start : OpenBy i S [] (first_work S.sheet.run)
   -- one state more is
-  onward : {r : List (List ℤ)} {w u : Work} {x : List ℤ} → OpenBy v S r w → StepsBy v S (length r) w (recorded x u) → OpenBy v S (r ++ x ∷ []) u
+  onward : {r : List (List ℤ)} {w u : Work} {x : List ℤ} → OpenBy i S r w → StepsBy i S (length r) w (recorded x u) → OpenBy i S (r ++ x ∷ []) u
 
 -- a run that has finished, with its record
-pub data FinishedBy (v : Visiting) (S : Setting) : List (List ℤ) → Type 0 where
-  finish : {r : List (List ℤ)} {w : Work} {x : List ℤ} → OpenBy v S r w → StepsBy v S (length r) w (finished x) → FinishedBy v S (r ++ x ∷ [])
+pub data FinishedBy (i : Visiting) (S : Setting) : List (List ℤ) → Type 0 where
+  finish : {r : List (List ℤ)} {w : Work} {x : List ℤ} → OpenBy i S r w → StepsBy i S (length r) w (finished x) → FinishedBy i S (r ++ x ∷ [])
 
 -- a run that has met a stop, with its record; the stop is at the state after the record
-pub data StoppedBy (v : Visiting) (S : Setting) : List (List ℤ) → Stop → Type 0 where
-  stop : {r : List (List ℤ)} {w : Work} {s : Stop} → OpenBy v S r w → StepsBy v S (length r) w (stopped s) → StoppedBy v S r s
+pub data StoppedBy (i : Visiting) (S : Setting) : List (List ℤ) → Stop → Type 0 where
+  stop : {r : List (List ℤ)} {w : Work} {s : Stop} → OpenBy i S r w → StepsBy i S (length r) w (stopped s) → StoppedBy i S r s
 
 -- a list of states is the record of a run, at some moment of it
-pub data RecordBy (v : Visiting) (S : Setting) (r : List (List ℤ)) : Type 0 where
-  open_record : (w : Work) → OpenBy v S r w → RecordBy v S r
-  finished_record : FinishedBy v S r → RecordBy v S r
+pub data RecordBy (i : Visiting) (S : Setting) (r : List (List ℤ)) : Type 0 where
+  open_record : (w : Work) → OpenBy i S r w → RecordBy i S r
+  finished_record : FinishedBy i S r → RecordBy i S r
 
--- the same of the runs of an engine, which settles its states in passes
+-- the same of the runs of an engine, which visits in passes
 abbrev pub Steps : Setting → ℕ → Work → Step → Type 0
 Steps S k w s = StepsBy in_passes S k w s
 

@@ -17,19 +17,19 @@ pub data OneVisit (S : Setting) (k : ℕ) (w : Work) (o : Outcome) : Type 0 wher
 -- one visit after another, in any order and as often as one likes, and the work that they lead to
 pub data Visits (S : Setting) (k : ℕ) (w : Work) : Work → Type 0 where
   no_visit : Visits S k w w
-  one_more : {u v : Work} {c : Bool} → Visits S k w u → OneVisit S k u (goes v c) → Visits S k w v
+  one_visit_more : {u v : Work} {c : Bool} → Visits S k w u → OneVisit S k u (goes v c) → Visits S k w v
 
 -- visits in any order, until a pass would change nothing, or a visit stops
-pub data SettlesAnyhow (S : Setting) (k : ℕ) (w : Work) : Outcome → Type 0 where
-  comes_to_rest : {u : Work} → Visits S k w u → pass S k u ≡ unchanged u → SettlesAnyhow S k w (goes u false)
-  meets_stop : {u : Work} {s : Stop} → Visits S k w u → OneVisit S k u (stops s) → SettlesAnyhow S k w (stops s)
+pub data SettlesInAnyOrder (S : Setting) (k : ℕ) (w : Work) : Outcome → Type 0 where
+  comes_to_rest : {u : Work} → Visits S k w u → pass S k u ≡ unchanged u → SettlesInAnyOrder S k w (goes u false)
+  meets_stop : {u : Work} {s : Stop} → Visits S k w u → OneVisit S k u (stops s) → SettlesInAnyOrder S k w (stops s)
 
 -- the two ways to visit the work of a state
 pub data Visiting : Type 0 where
   in_passes : Visiting
   in_any_order : Visiting
 
--- a state is settled so: state k, started with a work, comes to an outcome
+-- state k, started with a work and visited in this way, comes to an outcome
 abbrev pub SettlesBy : Visiting → Setting → ℕ → Work → Outcome → Type 0
 SettlesBy in_passes S k w o = Settles S k w o
-SettlesBy in_any_order S k w o = SettlesAnyhow S k w o
+SettlesBy in_any_order S k w o = SettlesInAnyOrder S k w o

@@ -5,30 +5,15 @@ use Rattle.meaning.specs.Intervals.{Setting}
 use Rattle.meaning.specs.Work.{Work, goes}
 use Rattle.meaning.specs.Passes.{Settles}
 use Rattle.meaning.proofs.Lists.{longer}
-use Rattle.meaning.proofs.Kept.{Kept, kept_settles}
-use Rattle.meaning.proofs.Changes.{kept_by_changes}
+use Rattle.meaning.proofs.Kept.{kept_settles}
+use Rattle.meaning.proofs.Starts.{Counted, counted_kept}
 use Rattle.board.specs.declared.board.Board.{Board}
 use Rattle.board.specs.Held.{held}
 use Rattle.board.specs.Store.{span_of}
 
--- as many serials were opened from w to u as there are spans more
-abbrev Counted : Work → Work → Type 0
-Counted w u = u.next + length w.spans ≡ w.next + length u.spans
-
-module _ (w : Work) where
-  -- each visit keeps that
-  counted_kept : (S : Setting) → Kept S (Counted w)
-  counted_kept S = kept_by_changes (record {
-    value = λ x v u _ h. h;
-    ending = λ e s u _ h. h;
-    duty = λ d u _ _ h. h;
-    carried = λ d u _ _ h. h;
-    span = λ g u _ _ _ h. omega (arith, h, longer u.spans (record { serial = u.next; opening = Some g; fresh = true }));
-  })
-
--- so the next serial is known by the numbers of spans
+-- the next serial is known by the numbers of spans
 pub serials : (S : Setting) (k : ℕ) (w u : Work) (c : Bool) → Settles S k w (goes u c) → u.next + length w.spans ≡ w.next + length u.spans
-serials S k w u c s = kept_settles S (Counted w) (counted_kept w S) k w u c s refl
+serials S k w u c s = kept_settles S (Counted w) (counted_kept S w) k w u c s refl
 
 -- which stays low, since a board has few spans
 pub next_young : (S : Setting) (k : ℕ) (b c : Board) → Settles S k (held b) (goes (held c) false) → b.next ≤ 64 * k + 1 → c.next ≤ 64 * (k + 1) + 1
