@@ -1,10 +1,9 @@
 -- Settling a state opens as many serials as spans.
-use Rattle.std.proofs.Common.{◌≡◌, ℕ, ◌+◌, ◌*◌, ◌≤◌, vec_items, false, Bool, true, length, Some, refl, arith}
+use Rattle.std.proofs.Common.{◌≡◌, ℕ, ◌+◌, ◌*◌, ◌≤◌, vec_items, false, Bool, length, refl, arith}
 use Rattle.std.proofs.lemmas.List.{length-map}
 use Rattle.meaning.specs.Intervals.{Setting}
 use Rattle.meaning.specs.Work.{Work, goes}
 use Rattle.meaning.specs.Passes.{Settles}
-use Rattle.meaning.proofs.Lists.{longer}
 use Rattle.meaning.proofs.Kept.{kept_settles}
 use Rattle.meaning.proofs.Starts.{Counted, counted_kept}
 use Rattle.board.specs.declared.board.Board.{Board}
