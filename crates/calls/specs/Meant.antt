@@ -22,7 +22,7 @@ pub record Meant : Type 0 where
 abbrev pub stands : Standing → Meant → Meant
 stands s e = record { sheet = e.sheet; standing = s }
 
--- what a recorder means: a list of states, a width and a room
+-- what an engine counts on of a recorder: its states in a list, its width and its room
 pub record Recording : Type 0 where
   pub states : List (List ℤ)
   pub width : ℕ

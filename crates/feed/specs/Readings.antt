@@ -13,6 +13,6 @@ in_range variable state reading = if ranged variable state then reading else Non
 abbrev pub ElsewhereNone : (ℕ → ℕ → Option ℤ) → Type 0
 ElsewhereNone readings = (variable state : ℕ) → ranged variable state ≡ false → readings variable state ≡ None
 
--- feeds are equal when all their readings are
+-- two feeds are equal when they read the same everywhere
 abbrev pub SameReadings : (ℕ → ℕ → Option ℤ) → (ℕ → ℕ → Option ℤ) → Type 0
 SameReadings f g = (variable state : ℕ) → f variable state ≡ g variable state

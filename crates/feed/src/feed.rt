@@ -9,7 +9,7 @@ pub const VARIABLES: usize = 16;
 pub const STATES: usize = 65_535;
 
 // A feed means its readings: for a variable and a state a number or none.
-// Feeds are equal when all their readings are. Asking changes nothing.
+// Two feeds are equal when they read the same everywhere. Asking changes nothing.
 pub trait Feed {
     // The reading for a variable, and then a state.
     ghost readings: { Self → ℕ → ℕ → Maybe ℤ };

@@ -6,9 +6,9 @@ ghost use Rattle.std.specs.Prelude.{◌≡◌};
 pub enum Fault {
     // the line has more than 64 bytes
     Long,
-    // the key is missing, unknown, after a later one, or skips `var` or `stmt`
+    // there is no key, or it is none of the five, or its turn is over, or it skips `var` or `stmt`
     Key,
-    // one line too many of its key
+    // its key has all the lines already that it may have
     Many,
     // the operation is unknown, or the word count is wrong
     Form,

@@ -3,7 +3,7 @@ ghost use Rattle.std.specs.Prelude.{◌≡◌, ℕ, ◌+◌, ◌-◌, ◌<◌, �
 ghost use Rattle.record.specs.Owned.{LeavesOwner};
 ghost use Rattle.record.specs.Rules.{Allowed, Capped, allowed_width, fitting, look_at};
 
-// A recorder means a list of states, a width and a room.
+// What a recorder means are its states in a list, its width and its room.
 // An engine rests on `states`, `breadth` and `spare` alone. The other members are for the owner of a recorder.
 pub trait Recorder {
     // The states recorded, the first one first.
@@ -38,7 +38,7 @@ pub trait Recorder {
         ensures untouched { (k : ℕ) → cell self.new k ≡ cell self.old k }
         ensures owner { LeavesOwner capacity lent reach cell self.old self.new };
 
-    // Adds a state, if there is room for it, it has the width, and each value is within ±1,000,000. Any other is denied.
+    // Adds a state for which there is room, with as many values as the width says, and none beyond ±1,000,000. Any other is denied.
     fn take(&mut self, state: &[i64]) -> bool
         ensures answer { result ≡ fitting (spare self.old) (breadth self.old) state.now }
         ensures listed { states self.new ≡ (if result then states self.old ++ state.now ∷ [] else states self.old) }

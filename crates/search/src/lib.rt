@@ -1,4 +1,4 @@
-// One search for every kind of item with a total order, and the order of byte strings.
+// The one search in lists of ordered items, of whatever kind they are, and the order of byte strings.
 #![tactic(auto)]
 
 mod bytes;
