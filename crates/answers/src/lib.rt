@@ -4,6 +4,3 @@
 mod answer;
 
 pub use crate::answer::Answer;
-
-#[cfg(test)]
-mod tests;

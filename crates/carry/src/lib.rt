@@ -14,6 +14,3 @@ pub use crate::filling::fill;
 pub use crate::nowhere::Nowhere;
 pub use crate::owning::keep;
 pub use crate::telling::keep_text;
-
-#[cfg(test)]
-mod tests;

@@ -5,6 +5,3 @@ mod closing;
 mod parts;
 
 pub use crate::closing::{Closing, MOST_CLOSING, closing_lines};
-
-#[cfg(test)]
-mod tests;

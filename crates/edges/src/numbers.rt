@@ -8,7 +8,12 @@ use value::{End, Memo, evaluate};
 
 // The variables' numbers as far as they are known, what is known of the end, an expression, and its number.
 #[derive(Clone, Copy)]
-struct Case<'a>(&'a [Option<i64>], End, u16, Option<i64>);
+pub(crate) struct Case<'a>(
+    pub(crate) &'a [Option<i64>],
+    pub(crate) End,
+    pub(crate) u16,
+    pub(crate) Option<i64>,
+);
 
 // Checks that an expression has the number that its case says.
 fn gives(rt: &impl Abort, sheet: &Sheet, memo: &mut Memo, case: Case) -> Result<(), Fail> {
@@ -25,7 +30,11 @@ fn give(rt: &impl Abort, sheet: &Sheet, memo: &mut Memo, cases: &[Case]) -> Resu
 }
 
 // Checks the cases of the sheet that a text spells. All numbers are worked out in one memory.
-fn all_give(rt: &(impl Abort + AllocGlobal), text: &[u8], cases: &[Case]) -> Result<(), Fail> {
+pub(crate) fn all_give(
+    rt: &(impl Abort + AllocGlobal),
+    text: &[u8],
+    cases: &[Case],
+) -> Result<(), Fail> {
     let mut loader = Loader::new(rt.alloc())?;
     assert!(rt; loader.load(text).is_ok());
     let mut memo = Memo::new(rt.alloc())?;
@@ -40,6 +49,7 @@ fn add_chain(text: &mut String, n: u16) -> fmt::Result {
     Ok(())
 }
 
+// A new memory has a place for each of the 200 expressions that a sheet may have, and has seen nothing.
 // Each expression of a chain uses the one before it twice. It is worked out once, or this would not end.
 #[test]
 fn shared(rt: HostRuntime) -> Result<(), Fail> {

@@ -103,6 +103,7 @@ accepted: expr=num 31622/expr=mul 0 0/stmt=empty/run=0/
 accepted: expr=num 1000/expr=num -1000000/expr=mul 0 1/expr=num 0/expr=add 2 3/expr=mul 4 3/stmt=empty/run=0/
 11 7 0: expr=num 1000/expr=num -1000000/expr=mul 0 1/expr=num 1/expr=add 2 3/
 11 7 0: expr=num 1000/expr=num -1000000/expr=mul 0 1/expr=num 1/expr=sub 3 2/
+11 8 0: expr=num 1000/expr=num 1000000/expr=num -1000000/expr=mul 0 1/expr=mul 0 2/expr=mul 3 4/
 ";
 
 // A product and a sum have sizes up to 1,000,000,000. A size goes by the ranges of the variables.

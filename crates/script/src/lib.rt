@@ -6,6 +6,3 @@ mod reading;
 
 pub use crate::calls::{Call, read_call};
 pub use crate::reading::read_reading;
-
-#[cfg(test)]
-mod tests;

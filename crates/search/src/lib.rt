@@ -6,6 +6,3 @@ mod finding;
 
 pub use bytes::compare_bytes;
 pub use finding::first_place;
-
-#[cfg(test)]
-mod tests;

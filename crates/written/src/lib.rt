@@ -7,6 +7,3 @@ mod recorder;
 
 pub use crate::lines::{put, put_line};
 pub use crate::recorder::TextRecorder;
-
-#[cfg(test)]
-mod tests;

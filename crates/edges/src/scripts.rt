@@ -1,6 +1,6 @@
 // What lines are calls, at the edges of words and numbers.
-use super::*;
 use feed::Reading;
+use script::{Call, read_call, read_reading};
 
 // A line of each kind.
 #[test]

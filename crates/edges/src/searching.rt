@@ -1,5 +1,5 @@
 // What the search and the comparisons do on short lists.
-use super::*;
+use search::{compare_bytes, first_place};
 use std::cmp::Ordering;
 
 // Of two equal items the first is found, an absent one is not, and an empty list has none.

@@ -1,6 +1,7 @@
-// The edges of the rules, and what stands in the bytes.
-use super::*;
+// The edges of the rules of recorders, at records as text, and what stands in the bytes.
+use carry::keep_text;
 use record::Recorder;
+use written::TextRecorder;
 
 // A byte less than a state's has no room, and neither has no byte at all.
 #[test]
@@ -67,4 +68,14 @@ fn restarts(rt: HostRuntime) {
     assert!(rt; recorder.take(&[5]));
     assert_eq!(rt; recorder.look(0, 0), Some(5));
     assert!(rt; memory == *b"state=0\nv0=5\n34\n.........");
+}
+
+// The owner of bytes finds the record's text in front, and its own bytes behind it.
+#[test]
+fn owned(rt: HostRuntime) {
+    let mut memory = [b'.'; 40];
+    assert_eq!(rt; keep_text(&mut memory, &[-1, 20, 3], 2), 20);
+    assert!(rt; memory == *b"state=0\nv0=-1\nv1=20\n....................");
+    assert_eq!(rt; keep_text(&mut memory, &[4], 17), 0);
+    assert_eq!(rt; memory[0], b's');
 }

@@ -1,6 +1,5 @@
-// The edges of the rules.
-use super::*;
-use feed::{Feed, ListFeed, Reading, Silent};
+// The edges of the rules of recorders, at tables of numbers.
+use carry::keep;
 use record::{Recorder, TableRecorder};
 use std::test::Fail;
 
@@ -69,65 +68,4 @@ fn rests(rt: HostRuntime) {
     assert_eq!(rt; memory, [1, 2, 9, 9, 9]);
     assert_eq!(rt; keep(&mut memory, &[4, 5, 6], 17), 0);
     assert_eq!(rt; memory, [1, 2, 9, 9, 9]);
-}
-
-// The owner of bytes finds the record's text in front, and its own bytes behind it.
-#[test]
-fn texts(rt: HostRuntime) {
-    let mut memory = [b'.'; 40];
-    assert_eq!(rt; keep_text(&mut memory, &[-1, 20, 3], 2), 20);
-    assert!(rt; memory == *b"state=0\nv0=-1\nv1=20\n....................");
-    assert_eq!(rt; keep_text(&mut memory, &[4], 17), 0);
-    assert_eq!(rt; memory[0], b's');
-}
-
-// The first of two records for one place counts, and records outside the ranges never do.
-#[test]
-fn lists(rt: HostRuntime) {
-    let list = [
-        Reading {
-            state: 65_535,
-            variable: 15,
-            number: 1,
-        },
-        Reading {
-            state: 65_534,
-            variable: 16,
-            number: 2,
-        },
-        Reading {
-            state: 65_534,
-            variable: 15,
-            number: 3,
-        },
-        Reading {
-            state: 65_534,
-            variable: 15,
-            number: 4,
-        },
-    ];
-    let feed = ListFeed::new(&list);
-    assert_eq!(rt; feed.reading(15, 65_534), Some(3));
-    assert_eq!(rt; feed.reading(15, 65_535), None);
-    assert_eq!(rt; feed.reading(16, 65_534), None);
-    assert_eq!(rt; feed.reading(14, 65_534), None);
-    assert_eq!(rt; Silent.reading(15, 65_534), None);
-}
-
-// Readings become a state, and none becomes 0; a maker's own kinds serve as well.
-#[test]
-fn copies(rt: HostRuntime) {
-    let list = [Reading {
-        state: 5,
-        variable: 1,
-        number: -8,
-    }];
-    let mut memory = [9i64; 4];
-    let mut table = TableRecorder::new(&mut memory);
-    assert!(rt; table.start(2));
-    assert!(rt; copy_readings(&ListFeed::new(&list), 5, &mut table));
-    assert!(rt; copy_readings(&Constant { number: 6 }, 65_534, &mut table));
-    assert!(rt; !copy_readings(&Constant { number: 6 }, 0, &mut table));
-    assert!(rt; !copy_readings(&Silent, 0, &mut Nowhere::new()));
-    assert_eq!(rt; memory, [0, -8, 6, 6]);
 }

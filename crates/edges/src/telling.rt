@@ -1,6 +1,7 @@
 // The line of each kind of answer.
-use super::*;
-use calls::{Cause, Denial, Ending, NotAdvanced, NotLoaded, Progress, Report};
+use crate::stops::stopped;
+use answers::Answer;
+use calls::{Denial, Ending, NotAdvanced, NotLoaded, Progress, Report};
 use lines::Fault;
 use meaning::{LeftOpen, Stop};
 use std::alloc::Global;
@@ -10,11 +11,6 @@ use verdict::Refusal;
 // Whether an answer's line is a text.
 fn says(heap: Global, answer: Answer, text: &str) -> Result<bool, Fail> {
     Ok(answer.to_string(heap)?.as_str() == text)
-}
-
-// A stop at state 7.
-fn stopped(stop: Stop) -> Cause {
-    Cause { stop, state: 7 }
 }
 
 // The answers of the calls that settle no state.

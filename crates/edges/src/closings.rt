@@ -1,6 +1,7 @@
 // The bytes of each kind of closing, and what is written where they do not fit.
-use super::*;
-use calls::{Cause, Denial, NotAdvanced, NotLoaded, Progress};
+use crate::stops::stopped;
+use calls::{Denial, NotAdvanced, NotLoaded, Progress};
+use closing::{Closing, closing_lines};
 use lines::Fault;
 use meaning::{LeftOpen, Stop};
 use verdict::Refusal;
@@ -13,8 +14,8 @@ fn says(closing: Closing, text: &[u8]) -> bool {
 }
 
 // The closing of a run that met a stop at state 7.
-fn stopped(stop: Stop) -> Closing {
-    Closing::Advanced(Err(NotAdvanced::Stopped(Cause { stop, state: 7 })))
+fn met(stop: Stop) -> Closing {
+    Closing::Advanced(Err(NotAdvanced::Stopped(stopped(stop))))
 }
 
 // A run without a stop.
@@ -31,11 +32,16 @@ fn runs(rt: HostRuntime) {
 // A run that met a stop.
 #[test]
 fn stops(rt: HostRuntime) {
-    let met = stopped(Stop::Contradiction(45));
-    let variable = stopped(Stop::Undetermined(LeftOpen::Variable(12)));
-    let end = stopped(Stop::Undetermined(LeftOpen::End));
-    let crowded = stopped(Stop::Crowded);
-    assert!(rt; says(met, b"verdict=contradiction\nstates=7\nstatement=45\n"));
+    let contradiction = met(Stop::Contradiction(45));
+    let variable = met(Stop::Undetermined(LeftOpen::Variable(12)));
+    let end = met(Stop::Undetermined(LeftOpen::End));
+    let crowded = met(Stop::Crowded);
+    assert!(rt;
+        says(
+            contradiction,
+            b"verdict=contradiction\nstates=7\nstatement=45\n"
+        )
+    );
     assert!(rt; says(variable, b"verdict=undetermined\nstates=7\nvariable=12\n"));
     assert!(rt; says(end, b"verdict=undetermined\nstates=7\nvariable=99\n"));
     assert!(rt; says(crowded, b"verdict=crowded\nstates=7\n"));
