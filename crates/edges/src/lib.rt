@@ -1,6 +1,6 @@
 #![tactic(auto)]
 
-// Tests of loading and of evaluation at the edges of their rules. They stand apart, so that no other crate is proved twice.
+// Tests of loading, of evaluation and of tables of examples at the edges of their rules. They stand apart, so that no other crate is proved twice.
 #[cfg(test)]
 mod building;
 #[cfg(test)]
@@ -9,6 +9,8 @@ mod holding;
 mod keys;
 #[cfg(test)]
 mod numbers;
+#[cfg(test)]
+mod tables;
 #[cfg(test)]
 mod texts;
 #[cfg(test)]
