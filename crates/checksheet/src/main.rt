@@ -1,22 +1,50 @@
-// Tells whether the text on standard input is a sheet: its counts and its names, or why it is refused.
+// Tells whether a text is a sheet: its counts and its names, or why it is refused.
+//
+//     checksheet         the text on standard input
+//     checksheet FILE    the text of this file
 #![tactic(auto)]
 
 mod telling;
 
 use crate::telling::Refused;
-use load::Loader;
-use std::io;
+use load::{ENOUGH, Loader};
 use std::io::{Read, Write};
+use std::process::ExitCode;
+use std::{env, fs, io};
 
-// One byte more than a sheet may have, so that a text that is too long is still seen to be so.
-const ENOUGH: u64 = 16_385;
-
-fn main(rt: HostRuntime) -> io::Result<()> {
+fn main(rt: HostRuntime) -> io::Result<ExitCode> {
+    let files: Vec<String> = env::args(&rt)?.skip(1).collect(rt.alloc())?;
     let mut text = Vec::new(rt.alloc());
-    rt.stdin().take(ENOUGH).read_to_end(&mut text)?;
+    match files.as_slice() {
+        [] => {
+            rt.stdin().take(ENOUGH).read_to_end(&mut text)?;
+        }
+        [file] => {
+            if let Err(reason) = read_file(&rt, file.as_str(), &mut text) {
+                eprintln!(rt; "checksheet: {file}: cannot be read: {reason}")?;
+                return Ok(ExitCode::FAILURE);
+            }
+        }
+        _ => {
+            eprintln!(rt; "usage: checksheet [FILE]")?;
+            return Ok(ExitCode::from(2));
+        }
+    }
+    check_text(&rt, &text)?;
+    Ok(ExitCode::SUCCESS)
+}
+
+// Reads a file, as far as it could be a sheet.
+fn read_file(rt: &HostRuntime, file: &str, text: &mut Vec<u8>) -> io::Result<()> {
+    fs::open(rt, file)?.take(ENOUGH).read_to_end(text)?;
+    Ok(())
+}
+
+// Loads a text, and prints what it has or why it is refused.
+fn check_text(rt: &HostRuntime, text: &[u8]) -> io::Result<()> {
     let mut loader = Loader::new(rt.alloc())?;
-    match loader.load(&text) {
-        Ok(()) => show_sheet(&rt, &mut loader, &text),
+    match loader.load(text) {
+        Ok(()) => show_sheet(rt, &mut loader, text),
         Err(refusal) => print!(rt; "{}", Refused { refusal }),
     }
 }

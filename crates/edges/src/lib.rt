@@ -1,11 +1,13 @@
 #![tactic(auto)]
 
-// Tests of loading, of evaluation, of recorders and feeds, and of what is read and written, most at the edges of their rules.
+// Tests of loading, of evaluation, of recorders and feeds, of tables of examples, and of what is read and written, most at the edges of their rules.
 // They stand apart, so that no other crate is proved twice.
 #[cfg(test)]
 mod building;
 #[cfg(test)]
 mod closings;
+#[cfg(test)]
+mod example_tables;
 #[cfg(test)]
 mod feeds;
 #[cfg(test)]

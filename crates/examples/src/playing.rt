@@ -1,4 +1,6 @@
-// Runs one example, and compares what comes of it with what it promises.
+// Runs worked sheets.
+use crate::bench::Bench;
+use crate::telling::tell;
 use answers::Answer;
 use closing::{Closing, MOST_CLOSING, closing_lines};
 use engine::{Ending, Engine, NotAdvanced, Progress, Report};
@@ -7,44 +9,29 @@ use record::{Recorder, TableRecorder};
 use std::alloc::Global;
 use std::io;
 use std::io::Write;
-use worked::{Example, reading_of};
+use worked::{WorkedSheet, reading_of};
 
 // The states that a run is asked for.
 const STATES: usize = 1000;
 
-// Tries out what stands in the table next. Says whether it was ok.
-pub fn try_out(
+// Runs a worked sheet, and compares its record, its closing lines and the report. Says whether all are as expected.
+pub fn play(
     rt: &HostRuntime,
-    engine: &mut Engine,
-    numbers: &mut [i64],
-    next: Result<Example<'_>, usize>,
-) -> io::Result<bool> {
-    match next {
-        Ok(example) => play(rt, engine, numbers, &example),
-        Err(line) => {
-            println!(rt; "malformed at line {line}")?;
-            Ok(false)
-        }
-    }
-}
-
-// Runs an example with a table over these numbers. Prints its name and `ok`, or what was expected and what came. Says whether it was ok.
-fn play(
-    rt: &HostRuntime,
-    engine: &mut Engine,
-    numbers: &mut [i64],
-    example: &Example<'_>,
+    bench: &mut Bench,
+    name: &[u8],
+    sheet: &WorkedSheet<'_>,
 ) -> io::Result<bool> {
     let mut readings = Vec::new(rt.alloc());
-    for line in example.readings.split(|b| *b == b'\n') {
+    for line in sheet.readings.split(|b| *b == b'\n') {
         if let Some(reading) = reading_of(line) {
             readings.push(reading)?;
         }
     }
-    let mut recorder = TableRecorder::new(numbers);
+    let engine = &mut bench.engine;
+    let mut recorder = TableRecorder::new(&mut bench.numbers);
     let came = run(
         engine,
-        example.sheet,
+        sheet.sheet,
         &ListFeed::new(&readings),
         &mut recorder,
     );
@@ -52,33 +39,15 @@ fn play(
     let mut lines = [0; MOST_CLOSING];
     let length = closing_lines(came, &mut lines);
     let closing = lines.get(..length).unwrap_or(&[]);
-    rt.stdout().write_all(example.name)?;
-    if record.as_slice() == example.record
-        && closing == example.closing
-        && is_reported(engine, came)
-    {
-        println!(rt; ": ok")?;
-        return Ok(true);
+    let ok = record.as_slice() == sheet.record
+        && closing == sheet.closing
+        && is_reported(engine, came);
+    let expected = [sheet.record, sheet.closing];
+    tell(rt, name, ok, &expected, &[&record, closing])?;
+    if !ok {
+        rt.println(Answer::Report(engine.report()))?;
     }
-    println!(rt; ": expected")?;
-    show_both(rt, example, &record, closing, engine.report())?;
-    Ok(false)
-}
-
-// Prints the lines that were expected of an example, and those that came of it, with the report at the end.
-fn show_both(
-    rt: &HostRuntime,
-    example: &Example<'_>,
-    record: &[u8],
-    closing: &[u8],
-    report: Report,
-) -> io::Result<()> {
-    rt.stdout().write_all(example.record)?;
-    rt.stdout().write_all(example.closing)?;
-    println!(rt; "but it came to")?;
-    rt.stdout().write_all(record)?;
-    rt.stdout().write_all(closing)?;
-    rt.println(Answer::Report(report))
+    Ok(ok)
 }
 
 // Loads a sheet, begins a run of it and advances once.

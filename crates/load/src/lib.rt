@@ -7,5 +7,6 @@ mod names;
 mod reading;
 
 pub use crate::loading::Loader;
+pub use crate::reading::{ENOUGH, LONGEST_TEXT};
 pub use sheet::Sheet;
 pub use verdict::Refusal;

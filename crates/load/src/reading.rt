@@ -10,7 +10,10 @@ use text::Reader;
 use verdict::Refusal;
 
 // The longest text, in bytes.
-const LONGEST_TEXT: usize = 16_384;
+pub const LONGEST_TEXT: usize = 16_384;
+
+// What is enough to read of a text that is to be loaded: one byte more than it may have, so that one that is too long is still seen to be so.
+pub const ENOUGH: u64 = LONGEST_TEXT as u64 + 1;
 
 // Reads the lines after the first, which the draft has none of yet.
 fn read_lines(draft: &mut Draft, reader: &mut Reader) -> Result<u16, Refusal>

@@ -1,9 +1,7 @@
 // The files that a script names.
+use load::ENOUGH;
 use std::io::Read;
 use std::{fs, io, str};
-
-// One byte more than a sheet may have, so that a text that is too long is still seen to be so.
-const ENOUGH: u64 = 16_385;
 
 // The text of the file with this path, as far as it could be that of a sheet, or none where there is no such file or it cannot be read.
 // Only memory that runs out is an error.

@@ -4,8 +4,13 @@ use Rattle.text.specs.Cut.{before, parted}
 use Rattle.feed.specs.declared.list.Reading.{Reading as Readings}
 use Rattle.script.specs.Spelling.{reading_words, SmallReading}
 use Rattle.worked.specs.declared.parts.Part.{Part}
-use Rattle.worked.specs.declared.parts.Part.TheVariants.{Name, Formula, Reading, Record, Closing, End, Other}
-use Rattle.worked.specs.declared.table.Example.{Example}
+use Rattle.worked.specs.declared.parts.Part.TheVariants.{Name, Formula, Text, Answer, Reading, Record, Closing, End, Other}
+use Rattle.worked.specs.declared.kinds.Example.{Example}
+use Rattle.worked.specs.declared.kinds.Kind.{Kind}
+use Rattle.worked.specs.declared.kinds.Kind.TheVariants.{Loaded, Shown, Worked}
+use Rattle.worked.specs.declared.kinds.LoadedText.{LoadedText}
+use Rattle.worked.specs.declared.kinds.ShownText.{ShownText}
+use Rattle.worked.specs.declared.kinds.WorkedSheet.{WorkedSheet}
 use Rattle.worked.specs.Parts.{part_in}
 
 -- o is the reading of the line l, and there is none where the line spells none: its words stand behind the 8 bytes of `reading=`
@@ -31,28 +36,64 @@ pub data AllSay (text : List ℕ) (part : Part) (p : ℕ) : ℕ → Type 0 where
   -- there is one more
   one_more : {q : ℕ} → AllSay text part p q → q ≤ length text → part_in (line_at text q) ≡ part → AllSay text part p (behind text q)
 
--- an example stands in a text from place p up to place q
-pub record StandsAt (text : List ℕ) (e : Example) (p q : ℕ) : Type 0 where
-  -- where its sheet, its readings, its record and its closing lines begin
-  pub at_sheet : ℕ
+-- a text and its answer stand in a table from place p up to place q
+pub record LoadedStandsAt (table : List ℕ) (e : LoadedText) (p q : ℕ) : Type 0 where
+  -- the first line has the text, behind the 5 bytes of `text=`
+  pub first : part_in (line_at table p) ≡ Text
+  pub packed : e.packed.now ≡ drop 5 (line_at table p)
+  -- the second one has the answer, behind the 7 bytes of `answer=`, and there is no other
+  pub second : part_in (line_at table (behind table p)) ≡ Answer
+  pub answer : e.answer.now ≡ drop 7 (line_at table (behind table p))
+  pub over : q ≡ behind table (behind table p)
+
+-- a text and what is shown of its run stand in a table from place p up to place q
+pub record ShownStandsAt (table : List ℕ) (e : ShownText) (p q : ℕ) : Type 0 where
+  -- where its closing lines begin
+  pub at_closing : ℕ
+  -- the first line has the text, behind the 5 bytes of `text=`
+  pub first : part_in (line_at table p) ≡ Text
+  pub packed : e.packed.now ≡ drop 5 (line_at table p)
+  -- the lines of the record follow
+  pub record_lines : AllSay table Other (behind table p) at_closing
+  pub states : e.«record».now ≡ between table (behind table p) at_closing
+  -- the closing lines begin with a verdict or a refusal, and stand up to the end
+  pub closes : part_in (line_at table at_closing) ≡ Closing
+  pub closing_lines : AllSay table Other (behind table at_closing) q
+  pub closing : e.closing.now ≡ between table at_closing q
+
+-- a worked sheet stands in a table from place p up to place q
+pub record WorkedStandsAt (table : List ℕ) (e : WorkedSheet) (p q : ℕ) : Type 0 where
+  -- where its readings, its record and its closing lines begin
   pub at_readings : ℕ
   pub at_record : ℕ
   pub at_closing : ℕ
+  -- the sheet, the readings and the record follow one another
+  pub sheet_lines : AllSay table Other p at_readings
+  pub sheet : e.sheet.now ≡ between table p at_readings
+  pub reading_lines : AllSay table Reading at_readings at_record
+  pub readings : e.readings.now ≡ between table at_readings at_record
+  pub record_lines : AllSay table Record at_record at_closing
+  pub states : e.«record».now ≡ between table at_record at_closing
+  -- the closing lines begin with a verdict or a refusal, and stand up to its end
+  pub closes : part_in (line_at table at_closing) ≡ Closing
+  pub closing_lines : AllSay table Other (behind table at_closing) q
+  pub closing : e.closing.now ≡ between table at_closing q
+
+-- what an example is of stands in a table from place p up to place q
+abbrev pub KindStandsAt : List ℕ → Kind → ℕ → ℕ → Type 0
+KindStandsAt table (Loaded e) p q = LoadedStandsAt table e p q
+KindStandsAt table (Shown e) p q = ShownStandsAt table e p q
+KindStandsAt table (Worked e) p q = WorkedStandsAt table e p q
+
+-- an example stands in a text from place p up to place q
+pub record StandsAt (text : List ℕ) (e : Example) (p q : ℕ) : Type 0 where
+  -- where what it is of begins
+  pub at_kind : ℕ
   -- the first line has the name, behind the 8 bytes of `example=`
   pub first : part_in (line_at text p) ≡ Name
   pub name : e.name.now ≡ drop 8 (line_at text p)
-  -- the formula stands between that line and the sheet
-  pub formula : AllSay text Formula (behind text p) at_sheet
-  -- the sheet, the readings and the record follow one another
-  pub sheet_lines : AllSay text Other at_sheet at_readings
-  pub sheet : e.sheet.now ≡ between text at_sheet at_readings
-  pub reading_lines : AllSay text Reading at_readings at_record
-  pub readings : e.readings.now ≡ between text at_readings at_record
-  pub record_lines : AllSay text Record at_record at_closing
-  pub states : e.«record».now ≡ between text at_record at_closing
-  -- the closing lines begin with a verdict or a refusal, and stand up to its end
-  pub closes : part_in (line_at text at_closing) ≡ Closing
-  pub closing_lines : AllSay text Other (behind text at_closing) q
-  pub closing : e.closing.now ≡ between text at_closing q
+  -- the formula stands between that line and what the example is of
+  pub formula : AllSay text Formula (behind text p) at_kind
+  pub kind : KindStandsAt text e.kind at_kind q
   -- behind it there is an empty line, or nothing
   pub ends : part_in (line_at text q) ≡ End

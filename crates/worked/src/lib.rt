@@ -1,11 +1,12 @@
-// Reads tables of worked examples: sheets, with their readings and with what comes of a run.
+// Reads tables of examples: texts, runs and sheets, with what comes of them.
 #![tactic(auto)]
 
+mod kinds;
+mod packed;
 mod parts;
 mod table;
 
+pub use crate::kinds::{Example, Kind, LoadedText, ShownText, WorkedSheet};
+pub use crate::packed::unpacked;
 pub use crate::parts::{Part, part_of};
-pub use crate::table::{Example, line_number, next_example, reading_of};
-
-#[cfg(test)]
-mod tests;
+pub use crate::table::{line_number, next_example, reading_of};

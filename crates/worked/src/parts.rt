@@ -11,6 +11,10 @@ pub enum Part {
     Name,
     // the formula, for readers
     Formula,
+    // a text, with each of its line ends spelled `/`
+    Text,
+    // what loading the text answers
+    Answer,
     // a reading that the run has
     Reading,
     // the numbers of a state that the run records
@@ -31,6 +35,10 @@ fn part_named(key: &[u8]) -> Part
         Part::Name
     } else if same(key, b"formula") {
         Part::Formula
+    } else if same(key, b"text") {
+        Part::Text
+    } else if same(key, b"answer") {
+        Part::Answer
     } else if same(key, b"reading") {
         Part::Reading
     } else if same(key, b"record") {

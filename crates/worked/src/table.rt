@@ -2,26 +2,13 @@
 ghost use Rattle.std.specs.Prelude.{◌≡◌, ℕ, ◌+◌, ◌≤◌, ◌==◌, IfSome, IfOk, IsTrue, MatchOption, count_by, length, take};
 ghost use Rattle.worked.specs.declared.parts.Part.TheVariants.{Closing, End, Other};
 ghost use Rattle.worked.specs.Parts.{part_in};
-ghost use Rattle.worked.specs.Blocks.{AllSay, ReadsLine, StandsAt, behind, between, line_at};
+ghost use Rattle.worked.specs.Blocks.{AllSay, KindStandsAt, ReadsLine, StandsAt, WorkedStandsAt, behind, between, line_at};
 
+use crate::kinds::{Example, Kind, LoadedText, ShownText, WorkedSheet};
 use crate::parts::{Part, part_of};
 use feed::Reading;
 use script::read_reading;
 use text::Reader;
-
-// A worked example: the parts of its block, as they stand in the table.
-#[derive(Clone, Copy, Debug)]
-pub struct Example<'a> {
-    pub name: &'a [u8],
-    // the lines of the sheet
-    pub sheet: &'a [u8],
-    // the lines with the readings of the run
-    pub readings: &'a [u8],
-    // the lines with the states that the run records
-    pub record: &'a [u8],
-    // the lines that close the run
-    pub closing: &'a [u8],
-}
 
 // The number of the line at which a reader stands, counted from 1.
 pub fn line_number(reader: &Reader<'_>) -> usize
@@ -105,6 +92,45 @@ fn end_block(reader: &mut Reader<'_>) -> Option<()>
     Some(())
 }
 
+// The worked sheet that starts at the place: its lines, its readings, its record and its closing lines.
+fn read_worked<'a>(reader: &mut Reader<'a>) -> Option<WorkedSheet<'a>>
+    ensures text { reader.new.text ≡ reader.old.text }
+    ensures stands { IfSome result (λ w. WorkedStandsAt reader.old.text.now w reader.old.place reader.new.place) }
+{
+    let sheet = lines_with(reader, Part::Other);
+    let readings = lines_with(reader, Part::Reading);
+    let record = lines_with(reader, Part::Record);
+    let closing = closing_lines(reader)?;
+    Some(WorkedSheet {
+        sheet,
+        readings,
+        record,
+        closing,
+    })
+}
+
+// What an example is of, from the place on. A text on one line has its answer behind it, or what is shown of its run.
+fn read_kind<'a>(reader: &mut Reader<'a>) -> Option<Kind<'a>>
+    ensures text { reader.new.text ≡ reader.old.text }
+    ensures stands { IfSome result (λ k. KindStandsAt reader.old.text.now k reader.old.place reader.new.place) }
+{
+    let Some(line) = line_with(reader, Part::Text) else {
+        return Some(Kind::Worked(read_worked(reader)?));
+    };
+    let packed = line.strip_prefix(b"text=")?;
+    if let Some(line) = line_with(reader, Part::Answer) {
+        let answer = line.strip_prefix(b"answer=")?;
+        return Some(Kind::Loaded(LoadedText { packed, answer }));
+    }
+    let record = lines_with(reader, Part::Other);
+    let closing = closing_lines(reader)?;
+    Some(Kind::Shown(ShownText {
+        packed,
+        record,
+        closing,
+    }))
+}
+
 // The example that starts at the place, up to the empty line or the end of the table that ends it. None where the line at the place is not in order.
 fn read_block<'a>(reader: &mut Reader<'a>) -> Option<Example<'a>>
     ensures text { reader.new.text ≡ reader.old.text }
@@ -112,18 +138,9 @@ fn read_block<'a>(reader: &mut Reader<'a>) -> Option<Example<'a>>
 {
     let name = line_with(reader, Part::Name)?.strip_prefix(b"example=")?;
     lines_with(reader, Part::Formula);
-    let sheet = lines_with(reader, Part::Other);
-    let readings = lines_with(reader, Part::Reading);
-    let record = lines_with(reader, Part::Record);
-    let closing = closing_lines(reader)?;
+    let kind = read_kind(reader)?;
     end_block(reader)?;
-    Some(Example {
-        name,
-        sheet,
-        readings,
-        record,
-        closing,
-    })
+    Some(Example { name, kind })
 }
 
 // Goes on behind the next empty line.

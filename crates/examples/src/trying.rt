@@ -1,0 +1,88 @@
+// Tries the examples of a table.
+use crate::bench::Bench;
+use crate::playing::play;
+use crate::telling::tell;
+use closing::MOST_CLOSING;
+use feed::Silent;
+use showing::{MOST_STATES, show};
+use std::io;
+use std::io::Write;
+use text::Reader;
+use worked::{Example, Kind, LoadedText, ShownText, next_example, unpacked};
+
+// Tries all examples of a table, and counts them.
+pub fn try_table(rt: &HostRuntime, bench: &mut Bench, table: &[u8]) -> io::Result<()> {
+    let mut reader = Reader::new(table);
+    // A bound, since a reader does not say that its examples end.
+    for _ in 0..u64::MAX {
+        let Some(next) = next_example(&mut reader) else {
+            break;
+        };
+        let ok = match next {
+            Ok(example) => try_example(rt, bench, &example)?,
+            Err(line) => {
+                println!(rt; "malformed at line {line}")?;
+                false
+            }
+        };
+        bench.count(ok);
+    }
+    Ok(())
+}
+
+// Tries an example. Says whether it was ok.
+fn try_example(rt: &HostRuntime, bench: &mut Bench, example: &Example<'_>) -> io::Result<bool> {
+    match &example.kind {
+        Kind::Loaded(text) => try_load(rt, bench, example.name, text),
+        Kind::Shown(text) => try_show(rt, bench, example.name, text),
+        Kind::Worked(sheet) => play(rt, bench, example.name, sheet),
+    }
+}
+
+// Loads a text, and compares the answer.
+fn try_load(
+    rt: &HostRuntime,
+    bench: &mut Bench,
+    name: &[u8],
+    text: &LoadedText<'_>,
+) -> io::Result<bool> {
+    let bytes = unpacked(rt.alloc(), text.packed)?;
+    let mut answer = Vec::new(rt.alloc());
+    match bench.loader.load(&bytes) {
+        Ok(()) => write!(answer, "accepted")?,
+        Err(refusal) => write!(answer, "{refusal}")?,
+    }
+    let ok = answer.as_slice() == text.answer;
+    tell(rt, name, ok, &[text.answer, b"\n"], &[&answer, b"\n"])?;
+    Ok(ok)
+}
+
+// Runs a text without readings, and compares the record and the closing lines.
+fn try_show(
+    rt: &HostRuntime,
+    bench: &mut Bench,
+    name: &[u8],
+    text: &ShownText<'_>,
+) -> io::Result<bool> {
+    let bytes = unpacked(rt.alloc(), text.packed)?;
+    let mut lines = [0; MOST_CLOSING];
+    let (end, length) = show(
+        &mut bench.engine,
+        &bytes,
+        MOST_STATES,
+        &Silent,
+        &mut bench.record,
+        &mut lines,
+    );
+    let record = bench.record.get(..end).unwrap_or(&[]);
+    let closing = lines.get(..length).unwrap_or(&[]);
+    let ok = record == text.record && closing == text.closing;
+    tell(
+        rt,
+        name,
+        ok,
+        &[text.record, text.closing],
+        &[record, closing],
+    )?;
+    Ok(ok)
+}
