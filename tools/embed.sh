@@ -1,35 +1,63 @@
 #!/usr/bin/env bash
-# Builds the static library, compiles and links the examples in C and in Rust with it, runs both, and compares what they print with examples/embed/stdout.
-# It wants rt, cc and rustc, from 1.85 on. Its last line is `embed: ok`, and its status 0, where both printed what they must.
+# Tries an installed copy. It compiles and links the examples in C and in Rust as pkg-config tells, runs both, and compares what they print with examples/embed/stdout.
+# It runs the installed runsheet on counter.sheet, and compares what that prints with what README.md shows.
+#
+#   tools/embed.sh [--library] [PREFIX]
+#
+# PREFIX is a folder that tools/install.sh has filled. Without one, this installs into a folder that is gone again afterwards. With --library no program is installed or run.
+# It wants pkg-config, cc and rustc, from 1.85 on, and where it installs rt and ar too. Its last line is `embed: ok`, and its status 0, where all printed what they must.
 set -u
-cd "$(dirname "$0")/.." || exit 1
 
 # The last line where something is wrong.
-fail() {
+fail() { # sentence [status]
     echo "embed: $1" >&2
-    exit 1
+    exit "${2-1}"
 }
 
-for tool in rt cc rustc; do
-    command -v "$tool" > /dev/null || fail "$tool is missing; the examples need rt, cc and rustc"
+# Compares what a command prints with what it must, which stands in a file.
+compare() { # name file command..
+    local name=$1 wanted=$2
+    shift 2
+    "$@" > "$made/said" || fail "$name failed"
+    diff "$wanted" "$made/said" || fail "$name printed something else"
+    echo "embed: $name printed what it must"
+}
+
+option=
+if [ "${1-}" = --library ]; then
+    option=--library
+    shift
+fi
+[[ $# -le 1 && ${1-} != -* ]] || fail 'usage: tools/embed.sh [--library] [PREFIX]' 2
+for tool in cc rustc; do
+    command -v "$tool" > /dev/null || fail "$tool is missing; the examples need cc and rustc"
 done
-heap="$(dirname "$(rt doc)")/c/liblibc_c.a"
-[ -f "$heap" ] || fail "the toolchain has no $heap"
+finder=$(command -v pkg-config || command -v pkgconf) || fail 'pkg-config is missing; it comes with the package pkg-config or pkgconf'
 made=$(mktemp -d) || exit 1
 trap 'rm -rf "$made"' EXIT
+if [ $# -eq 1 ]; then
+    prefix=$(CDPATH='' cd -- "$1" && pwd) || fail "there is no folder $1"
+fi
+CDPATH='' cd -- "$(dirname "$0")/.." || exit 1
+if [ $# -eq 0 ]; then
+    prefix=$made/installed
+    tools/install.sh ${option:+"$option"} "$prefix" || fail 'nothing was installed'
+fi
 
-(cd crates/embed && rt lib) > "$made/lib.log" 2>&1 || { tail -n 20 "$made/lib.log" >&2; fail 'the library was not built'; }
-library=crates/embed/out/libembed.a
+export PKG_CONFIG_PATH=$prefix/lib/pkgconfig
+"$finder" --exists --print-errors domgrauja || fail "pkg-config finds no domgrauja in $prefix"
+read -r -a headers <<< "$("$finder" --cflags domgrauja)"
+read -r -a libraries <<< "$("$finder" --libs domgrauja)"
+examples=$prefix/share/domgrauja/examples
 
-# Runs an example, and compares.
-compare() {
-    "$made/$1" examples/readings.sheet > "$made/$1.out" || fail "the example in $2 failed"
-    diff examples/embed/stdout "$made/$1.out" || fail "the example in $2 printed something else"
-    echo "embed: the example in $2 printed what it must"
-}
+cc -std=c11 -O2 -Wall -Wextra -Werror "${headers[@]}" "$examples/embed/c/main.c" "${libraries[@]}" -o "$made/c" || fail 'the example in C was not built'
+compare 'the example in C' examples/embed/stdout "$made/c" "$examples/readings.sheet"
+rustc --edition 2024 -O -D warnings "$examples/embed/rust/main.rs" "${libraries[@]}" -o "$made/rust" || fail 'the example in Rust was not built'
+compare 'the example in Rust' examples/embed/stdout "$made/rust" "$examples/readings.sheet"
 
-cc -std=c11 -O2 -Wall -Wextra -Werror -Iinclude examples/embed/c/main.c "$library" "$heap" -o "$made/c" || fail 'the example in C was not built'
-compare c C
-rustc --edition 2024 -O -D warnings examples/embed/rust/main.rs -C link-arg="$library" -C link-arg="$heap" -o "$made/rust" || fail 'the example in Rust was not built'
-compare rust Rust
+if [ -z "$option" ]; then
+    # The first run that README.md shows, up to the end of its block.
+    awk '/^state=0$/ { shown = 1 } shown && /^```$/ { exit } shown' README.md > "$made/shown"
+    compare runsheet "$made/shown" "$prefix/bin/runsheet" < "$examples/counter.sheet"
+fi
 echo 'embed: ok'
