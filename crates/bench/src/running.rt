@@ -1,10 +1,7 @@
 // A run from its first state to its end.
-use engine::{Engine, NotAdvanced, Progress};
+use engine::{Engine, MOST_ASKED, NotAdvanced, Progress};
 use feed::Feed;
 use record::Recorder;
-
-// The states that one advance is asked for.
-const STATES: usize = 1000;
 
 // So many advances fill any recorder.
 const ADVANCES: u32 = 66;
@@ -18,7 +15,7 @@ pub fn run<F: Feed, R: Recorder>(
     let _ = engine.abandon();
     engine.begin(recorder).map_err(NotAdvanced::Denied)?;
     for _ in 0..ADVANCES {
-        match engine.advance(STATES, feed, recorder) {
+        match engine.advance(MOST_ASKED, feed, recorder) {
             Ok(Progress::Open(_)) => {}
             answer => return answer,
         }

@@ -4,8 +4,8 @@ ghost use Rattle.engine.specs.Events.{met, turned};
 
 use calls::{Condition, Denial, Ending};
 
-// The most states that one advance is asked for.
-const MOST_ASKED: usize = 1000;
+// The most states that one advance may be asked for.
+pub const MOST_ASKED: usize = 1000;
 
 // What is asked of an engine.
 #[derive(Clone, Copy, Debug, PartialEq, Eq)]

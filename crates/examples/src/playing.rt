@@ -3,16 +3,13 @@ use crate::bench::Bench;
 use crate::telling::tell;
 use answers::Answer;
 use closing::{Closing, MOST_CLOSING, closing_lines};
-use engine::{Ending, Engine, NotAdvanced, Progress, Report};
+use engine::{Ending, Engine, MOST_ASKED, NotAdvanced, Progress, Report};
 use feed::{Feed, ListFeed};
 use record::{Recorder, TableRecorder};
 use std::alloc::Global;
 use std::io;
 use std::io::Write;
 use worked::{WorkedSheet, reading_of};
-
-// The states that a run is asked for.
-const STATES: usize = 1000;
 
 // Runs a worked sheet, and compares its record, its closing lines and the report. Says whether all are as expected.
 pub fn play(
@@ -64,7 +61,7 @@ fn run<F: Feed, R: Recorder>(
     if let Err(denial) = engine.begin(recorder) {
         return Closing::Advanced(Err(NotAdvanced::Denied(denial)));
     }
-    Closing::Advanced(engine.advance(STATES, feed, recorder))
+    Closing::Advanced(engine.advance(MOST_ASKED, feed, recorder))
 }
 
 // The recorded states in the form of the table: a line for each, with its numbers.

@@ -3,8 +3,9 @@ use crate::bench::Bench;
 use crate::playing::play;
 use crate::telling::tell;
 use closing::MOST_CLOSING;
+use engine::MOST_ASKED;
 use feed::Silent;
-use showing::{MOST_STATES, show};
+use showing::show;
 use std::io;
 use std::io::Write;
 use text::Reader;
@@ -69,7 +70,7 @@ fn try_show(
     let (end, length) = show(
         &mut bench.engine,
         &bytes,
-        MOST_STATES,
+        MOST_ASKED,
         &Silent,
         &mut bench.record,
         &mut lines,

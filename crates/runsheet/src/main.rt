@@ -5,10 +5,10 @@
 #![tactic(auto)]
 
 use closing::MOST_CLOSING;
-use engine::Engine;
+use engine::{Engine, MOST_ASKED};
 use feed::Silent;
 use load::ENOUGH;
-use showing::{MOST_STATES, show};
+use showing::show;
 use std::io::{Read, Write};
 use std::process::ExitCode;
 use std::{env, fs, io};
@@ -52,7 +52,7 @@ fn show_run(rt: &HostRuntime, text: &[u8]) -> io::Result<()> {
     let (end, length) = show(
         &mut engine,
         text,
-        MOST_STATES,
+        MOST_ASKED,
         &Silent,
         &mut record,
         &mut closing,

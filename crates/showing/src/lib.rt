@@ -4,5 +4,4 @@
 mod runner;
 mod shown;
 
-pub use crate::runner::MOST_STATES;
 pub use crate::shown::{record_numbers, record_text, show};

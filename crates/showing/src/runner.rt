@@ -12,9 +12,6 @@ use engine::{Engine, NotAdvanced, Progress};
 use feed::Feed;
 use record::Recorder;
 
-// The most states that a run may be asked for.
-pub const MOST_STATES: usize = 1000;
-
 // Begins a run of the sheet that the engine holds, and advances it once.
 fn run<F: Feed, R: Recorder>(
     engine: &mut Engine,
