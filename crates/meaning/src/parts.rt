@@ -1,7 +1,7 @@
 // What the work of a state is made of, as plain values.
 use value::End;
 
-// A duty is an obligation: a statement that a span owes from this state on.
+// A duty is what temporal logic calls an obligation: a formula that is to hold from this state on, here a statement, to the end of the span that owes it.
 // A number makes it a part of that obligation: for `len` the states that come after this one, for `for` the rounds to go, for `gets` its variable's value.
 #[derive(Clone, Copy, Debug, PartialEq, Eq, PartialOrd, Ord)]
 pub struct Duty {
@@ -20,7 +20,7 @@ pub struct Opening {
     pub follower: Duty,
 }
 
-// A span is a piece of the interval that runs in this state. The whole interval is the first, with serial 0 and no opening.
+// A span is what interval temporal logic calls a subinterval, one that is still running in this state: its first state is known, its last one may not be. The whole interval is the first, with serial 0 and no opening.
 // It is fresh in the state that opened it. No serial is used twice in a run.
 #[derive(Clone, Copy, Debug, PartialEq, Eq)]
 pub struct Span {
