@@ -10,6 +10,7 @@ use written::put;
 pub const MOST_CLOSING: usize = 81;
 
 // What is to be told at the end: that a text was not loaded, or what the last advance answered.
+// Others would call the word behind `verdict=` the outcome of the run.
 #[derive(Clone, Copy, Debug, PartialEq, Eq)]
 pub enum Closing {
     // the text was not loaded

@@ -8,7 +8,7 @@ pub const VARIABLES: usize = 16;
 // The states that may have readings: 0 to 65,534.
 pub const STATES: usize = 65_535;
 
-// A feed means its readings: for a variable and a state a number or none.
+// A feed means its readings: for a variable and a state a number or none. Others would call it the input of a run.
 // Two feeds are equal when they read the same everywhere. Asking changes nothing.
 pub trait Feed {
     // The reading for a variable, and then a state.

@@ -22,7 +22,7 @@ pub enum Fault {
     Size,
 }
 
-// The key of a line.
+// The key of a line: the word ahead of its first `=`. Others would call it a keyword.
 #[derive(Clone, Copy, Debug, PartialEq, Eq)]
 pub enum Keyword {
     Sheet,

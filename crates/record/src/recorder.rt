@@ -3,7 +3,7 @@ ghost use Rattle.std.specs.Prelude.{◌≡◌, ℕ, ◌+◌, ◌-◌, ◌<◌, �
 ghost use Rattle.record.specs.Owned.{LeavesOwner};
 ghost use Rattle.record.specs.Rules.{Allowed, Capped, allowed_width, fitting, look_at};
 
-// What a recorder means are its states in a list, its width and its room.
+// What a recorder means are its states in a list, its width and its room. Others would call what it keeps a trace.
 // An engine rests on `states`, `breadth` and `spare` alone. The other members are for the owner of a recorder.
 pub trait Recorder {
     // The states recorded, the first one first.
