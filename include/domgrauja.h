@@ -1,7 +1,7 @@
 /* Domgrauja for programs in C: check a timing sheet, and run one.
  *
- * Build the static library with `rt lib` in crates/embed, and link crates/embed/out/libembed.a
- * together with the toolchain's c/liblibc_c.a. tools/embed.sh does both for the examples.
+ * tools/install.sh PREFIX proves, builds and installs the static library with this header.
+ * Compile and link with what `pkg-config --cflags --libs domgrauja` prints; tools/embed.sh does so for the examples.
  *
  * This header is written by hand. Nothing proves that it matches the library.
  *

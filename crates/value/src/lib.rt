@@ -11,6 +11,3 @@ pub use crate::evaluation::{evaluate, evaluate_at_once};
 pub use crate::memo::Memo;
 pub use crate::operate::in_range;
 pub use crate::parts::{End, Open};
-
-#[cfg(test)]
-mod tests;
