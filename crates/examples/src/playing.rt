@@ -1,6 +1,6 @@
 // Runs worked sheets.
 use crate::bench::Bench;
-use crate::telling::tell;
+use crate::telling::{show_both, tell};
 use answers::Answer;
 use closing::{Closing, MOST_CLOSING, closing_lines};
 use engine::{Ending, Engine, MOST_ASKED, NotAdvanced, Progress, Report};
@@ -39,9 +39,9 @@ pub fn play(
     let ok = record.as_slice() == sheet.record
         && closing == sheet.closing
         && is_reported(engine, came);
-    let expected = [sheet.record, sheet.closing];
-    tell(rt, name, ok, &expected, &[&record, closing])?;
+    tell(rt, name, ok)?;
     if !ok {
+        show_both(rt, sheet.record, sheet.closing, &record, closing)?;
         rt.println(Answer::Report(engine.report()))?;
     }
     Ok(ok)

@@ -2,25 +2,27 @@
 use std::io;
 use std::io::Write;
 
-// Prints an example's name, and `ok` or what was expected of it and what came, part by part.
-pub fn tell(
-    rt: &HostRuntime,
-    name: &[u8],
-    ok: bool,
-    expected: &[&[u8]],
-    came: &[&[u8]],
-) -> io::Result<()> {
+// Prints an example's name, and `ok` or that something else was expected of it.
+pub fn tell(rt: &HostRuntime, name: &[u8], ok: bool) -> io::Result<()> {
     rt.stdout().write_all(name)?;
     if ok {
-        return println!(rt; ": ok");
+        println!(rt; ": ok")
+    } else {
+        println!(rt; ": expected")
     }
-    println!(rt; ": expected")?;
-    for part in expected {
-        rt.stdout().write_all(part)?;
-    }
+}
+
+// Prints the record and the closing lines that were expected of an example, and those that came of it.
+pub fn show_both(
+    rt: &HostRuntime,
+    expected_record: &[u8],
+    expected_closing: &[u8],
+    record: &[u8],
+    closing: &[u8],
+) -> io::Result<()> {
+    rt.stdout().write_all(expected_record)?;
+    rt.stdout().write_all(expected_closing)?;
     println!(rt; "but it came to")?;
-    for part in came {
-        rt.stdout().write_all(part)?;
-    }
-    Ok(())
+    rt.stdout().write_all(record)?;
+    rt.stdout().write_all(closing)
 }

@@ -1,7 +1,7 @@
 // Tries the examples of a table.
 use crate::bench::Bench;
 use crate::playing::play;
-use crate::telling::tell;
+use crate::telling::{show_both, tell};
 use closing::MOST_CLOSING;
 use engine::MOST_ASKED;
 use feed::Silent;
@@ -54,7 +54,10 @@ fn try_load(
         Err(refusal) => write!(answer, "{refusal}")?,
     }
     let ok = answer.as_slice() == text.answer;
-    tell(rt, name, ok, &[text.answer, b"\n"], &[&answer, b"\n"])?;
+    tell(rt, name, ok)?;
+    if !ok {
+        show_both(rt, text.answer, b"\n", &answer, b"\n")?;
+    }
     Ok(ok)
 }
 
@@ -78,12 +81,9 @@ fn try_show(
     let record = bench.record.get(..end).unwrap_or(&[]);
     let closing = lines.get(..length).unwrap_or(&[]);
     let ok = record == text.record && closing == text.closing;
-    tell(
-        rt,
-        name,
-        ok,
-        &[text.record, text.closing],
-        &[record, closing],
-    )?;
+    tell(rt, name, ok)?;
+    if !ok {
+        show_both(rt, text.record, text.closing, record, closing)?;
+    }
     Ok(ok)
 }
