@@ -1,6 +1,6 @@
 #!/usr/bin/env bash
 # Tries an installed copy. It compiles and links the examples in C and in Rust as pkg-config tells, runs both, and compares what they print with examples/embed/stdout.
-# It runs the installed runsheet on counter.sheet, and compares what that prints with what README.md shows.
+# It runs the installed runsheet on counter.sheet, and compares what that prints with crates/runsheet/stdout.
 #
 #   tools/embed.sh [--library] [PREFIX]
 #
@@ -56,8 +56,6 @@ rustc --edition 2024 -O -D warnings "$examples/embed/rust/main.rs" "${libraries[
 compare 'the example in Rust' examples/embed/stdout "$made/rust" "$examples/readings.sheet"
 
 if [ -z "$option" ]; then
-    # The first run that README.md shows, up to the end of its block.
-    awk '/^state=0$/ { shown = 1 } shown && /^```$/ { exit } shown' README.md > "$made/shown"
-    compare runsheet "$made/shown" "$prefix/bin/runsheet" < "$examples/counter.sheet"
+    compare runsheet crates/runsheet/stdout "$prefix/bin/runsheet" "$examples/counter.sheet"
 fi
 echo 'embed: ok'

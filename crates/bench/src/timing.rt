@@ -1,12 +1,12 @@
 // Times many loads and many runs of one sheet.
 use crate::running::run;
-use closing::{Closing, MOST_CLOSING, closing_lines};
 use engine::Engine;
 use feed::Feed;
 use record::{Recorder, TableRecorder};
 use std::io;
 use std::io::Write;
 use std::time::{Duration, Instant};
+use summary::{Closing, MOST_CLOSING, closing_lines};
 
 // The numbers of 1,100 states of 16 variables.
 const NUMBERS: usize = 17_600;

@@ -10,15 +10,15 @@ use Rattle.std.proofs.lemmas.List.Quantifiers.{position-Some}
 use Rattle.std.proofs.lemmas.Option.{none-some}
 use Rattle.std.proofs.lemmas.List.{get_or_read_under}
 use Rattle.std.proofs.lemmas.Bool.{cond-true, cond-false, eqb-true, eq-eqb, true≢false, false_from_ne_true, leb-true, ltb-true, le-leb, lt-ltb, le-ltb, and_parts, and_from, and_left, and_right}
-use Rattle.value.specs.declared.parts.End.{End}
-use Rattle.value.specs.declared.parts.End.TheVariants.{Unknown}
-use Rattle.meaning.specs.declared.parts.Opening.{Opening}
-use Rattle.meaning.specs.declared.parts.Duty.{Duty}
-use Rattle.meaning.specs.declared.parts.Stop.TheVariants.{Crowded}
+use Rattle.value.specs.declared.end.End.{End}
+use Rattle.value.specs.declared.end.End.TheVariants.{Unknown}
+use Rattle.meaning.specs.declared.duties.Opening.{Opening}
+use Rattle.meaning.specs.declared.duties.Duty.{Duty}
+use Rattle.meaning.specs.declared.duties.Stop.TheVariants.{Crowded}
 use Rattle.meaning.specs.Work.{set_at, plain, stops, goes, has_opened}
 use Rattle.meaning.specs.Effects.{with_end, with_span, open_span}
-use Rattle.meaning.specs.Order.{◌∈◌, here, there, Lives}
-use Rattle.board.specs.declared.parts.Row.{Row}
+use Rattle.meaning.specs.WellFormed.{◌∈◌, here, there, Present}
+use Rattle.board.specs.declared.row.Row.{Row}
 use Rattle.board.specs.Store.{span_of, has_serial, ends_of, Store, work, rising}
 
 -- what stands for a row that is not there
@@ -89,14 +89,14 @@ write_means m i n s r e p k q b =
     ∙ ap (λ (x : ℕ). with_end e x (work m)) q.1
 
 -- a span that runs has a place
-lives_past : (r : Row) (l : List Row) (s : ℕ) → (r.span.serial ≡ s → ⊥) → Lives (map span_of (r ∷ l)) s → Lives (map span_of l) s
+lives_past : (r : Row) (l : List Row) (s : ℕ) → (r.span.serial ≡ s → ⊥) → Present (map span_of (r ∷ l)) s → Present (map span_of l) s
 lives_past r l s n h = by h.inside
   where
-    by : h.span ∈ (r.span ∷ map span_of l) → Lives (map span_of l) s
+    by : h.span ∈ (r.span ∷ map span_of l) → Present (map span_of l) s
     by (here e) = absurd (n (sym (ap (λ t. t.serial) e) ∙ h.named))
     by (there q) = record { span = h.span; inside = q; named = h.named }
 
-lives_none : (s : ℕ) → Lives [] s → ⊥
+lives_none : (s : ℕ) → Present [] s → ⊥
 lives_none s h = elim h.inside [ ]
 
 pub placed_serial : (l : List Row) (s i : ℕ) → position (has_serial s) l ≡ Some i → HasSerial l i s
@@ -147,17 +147,17 @@ unknown_from (r ∷ l) s k p = by (eqb r.span.serial s) p (unknown_from l s (k +
 pub unknown_end : (l : List Row) (s : ℕ) → position (has_serial s) l ≡ None → Unknown ≡ ends_of l s
 unknown_end l s p = unknown_from l s 0 (sym (position_from-zero (has_serial s) l) ∙ p)
 
-none_from : (l : List Row) (s k : ℕ) → position_from (has_serial s) k l ≡ None → Lives (map span_of l) s → ⊥
+none_from : (l : List Row) (s k : ℕ) → position_from (has_serial s) k l ≡ None → Present (map span_of l) s → ⊥
 none_from [] s k p h = lives_none s h
 none_from (r ∷ l) s k p h = by (eqb r.span.serial s) refl p (none_from l s (k + 1))
   where
     by : (b : Bool) → eqb r.span.serial s ≡ b → cond b (Some k) (position_from (has_serial s) (k + 1) l) ≡ None
-        → (position_from (has_serial s) (k + 1) l ≡ None → Lives (map span_of l) s → ⊥) → ⊥
+        → (position_from (has_serial s) (k + 1) l ≡ None → Present (map span_of l) s → ⊥) → ⊥
     by true e p ih = none-some k (sym p)
     by false e p ih = ih p (lives_past r l s (λ q. true≢false (sym (eq-eqb r.span.serial s q) ∙ e)) h)
 
 -- where the search finds none, no such span runs
-pub unplaced : (l : List Row) (s : ℕ) → position (has_serial s) l ≡ None → Lives (map span_of l) s → ⊥
+pub unplaced : (l : List Row) (s : ℕ) → position (has_serial s) l ≡ None → Present (map span_of l) s → ⊥
 unplaced l s p = none_from l s 0 (sym (position_from-zero (has_serial s) l) ∙ p)
 
 -- a new row

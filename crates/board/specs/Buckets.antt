@@ -2,10 +2,10 @@
 use Rattle.std.specs.Prelude.{ℕ, ◌+◌, ◌*◌, ◌-◌, ◌%◌, ◌^◌, Bool, true, false, if◌then◌else◌, List, Some, None, Option, ◌==◌, pos, unwrap_or, slice_index, slice_index_or}
 use Rattle.std.specs.List.{list_all}
 use Rattle.std.specs.Int.{w64, cast_unsigned}
-use Rattle.meaning.specs.declared.parts.Duty.{Duty}
-use Rattle.meaning.specs.declared.parts.Opening.{Opening}
-use Rattle.meaning.specs.declared.parts.Span.{Span}
-use Rattle.board.specs.declared.parts.Row.{Row}
+use Rattle.meaning.specs.declared.duties.Duty.{Duty}
+use Rattle.meaning.specs.declared.duties.Opening.{Opening}
+use Rattle.meaning.specs.declared.duties.Span.{Span}
+use Rattle.board.specs.declared.row.Row.{Row}
 
 -- the bucket of a duty, one of 2,048
 abbrev pub bucket : Duty → ℕ
@@ -43,5 +43,5 @@ leads places l None = true
 leads places l (Some b) = is_in b (slice_index_or l (slice_index places b) None)
 
 -- whether that is so for every item
-abbrev pub listed : List ℕ → List (Option ℕ) → Bool
-listed places l = list_all (leads places l) l
+abbrev pub all_lead : List ℕ → List (Option ℕ) → Bool
+all_lead places l = list_all (leads places l) l

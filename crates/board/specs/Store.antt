@@ -1,11 +1,11 @@
 -- The work that plain tables hold: a list of values, and spans with their ends. Assumes nothing.
 use Rattle.std.specs.Prelude.{ℕ, suc, Bool, false, if◌then◌else◌, ◌&&◌, List, [], ◌∷◌, map, ℤ, None, Option, ◌==◌, nat_le, slice_index_or}
-use Rattle.value.specs.declared.parts.End.{End}
-use Rattle.value.specs.declared.parts.End.TheVariants.{Unknown, On, Last}
-use Rattle.meaning.specs.declared.parts.Duty.{Duty}
-use Rattle.meaning.specs.declared.parts.Span.{Span}
+use Rattle.value.specs.declared.end.End.{End}
+use Rattle.value.specs.declared.end.End.TheVariants.{Unknown, On, Last}
+use Rattle.meaning.specs.declared.duties.Duty.{Duty}
+use Rattle.meaning.specs.declared.duties.Span.{Span}
 use Rattle.meaning.specs.Work.{Work}
-use Rattle.board.specs.declared.parts.Row.{Row}
+use Rattle.board.specs.declared.row.Row.{Row}
 
 -- the span of a row
 abbrev pub span_of : Row → Span

@@ -1,11 +1,11 @@
 // How answers follow one another.
 ghost use Rattle.std.specs.Prelude.{◌≡◌};
-ghost use Rattle.board.specs.Answers.{afterwards};
+ghost use Rattle.board.specs.Outcomes.{afterwards};
 
 use meaning::Stop;
 
 // An answer, where something has changed before if `changed`.
-pub fn after(changed: bool, answer: Result<bool, Stop>) -> Result<bool, Stop>
+pub fn afterwards(changed: bool, answer: Result<bool, Stop>) -> Result<bool, Stop>
     ensures { result ≡ afterwards changed answer }
 {
     answer.map(|again| changed || again)

@@ -1,12 +1,12 @@
 // The work of one state in memory.
 ghost use Rattle.std.specs.Prelude.{◌≡◌, ◌+◌, ◌≤◌, true, map, vec_len, vec_capacity};
 ghost use Rattle.board.specs.Store.{rising};
-ghost use Rattle.board.specs.Buckets.{row_in, listed};
+ghost use Rattle.board.specs.Buckets.{row_in, all_lead};
 
 use crate::buckets::BUCKETS;
 use crate::duties::DutyList;
-use crate::parts::Row;
 use crate::places::HINTS;
+use crate::row::Row;
 use sheet::MOST_VARIABLES;
 
 // The most duties in a list, and the most spans that are held at once.
@@ -33,6 +33,6 @@ pub struct Board {
     ghost few: { vec_len rows ≤ 64 },
     ghost room: { 64 ≤ vec_capacity rows },
     ghost ordered: { rising 0 rows.items next ≡ true },
-    ghost opened: { listed openings (map row_in rows.items) ≡ true },
+    ghost opened: { all_lead openings (map row_in rows.items) ≡ true },
     ghost counted: { (next ≤ base + vec_len rows) × (base ≤ 4200000) },
 }

@@ -2,8 +2,8 @@
 ghost use Rattle.std.specs.Prelude.{◌≡◌, ◌<◌, ◌≤◌, true, false, IfOk, [], ◌∷◌, ◌++◌, map, slice_index, vec_len, vec_capacity};
 ghost use Rattle.std.specs.List.{slice_get};
 ghost use Rattle.meaning.specs.Work.{has_duty};
-ghost use Rattle.board.specs.Answers.{once, grown};
-ghost use Rattle.board.specs.Buckets.{bucket, place_after, duty_in, listed};
+ghost use Rattle.board.specs.Outcomes.{adding_once, grown};
+ghost use Rattle.board.specs.Buckets.{bucket, place_after, duty_in, all_lead};
 
 use crate::board::MOST_DUTIES;
 use crate::buckets::{BUCKETS, bucket};
@@ -22,7 +22,7 @@ pub(crate) struct DutyList {
     ghost few: { vec_len list ≤ 512 },
     ghost room: { 512 ≤ vec_capacity list },
     ghost whole: { vec_len arrivals ≡ 2048 },
-    ghost listed: { listed (map (place_after gone) arrivals.items) (map duty_in list.items) ≡ true },
+    ghost listed: { all_lead (map (place_after gone) arrivals.items) (map duty_in list.items) ≡ true },
 }
 
 impl DutyList {
@@ -71,7 +71,7 @@ impl DutyList {
 
     // Adds a duty, once. Mostly its bucket says whether it is there: no duty has come to it, or this one came last.
     pub(crate) fn add_once(&mut self, duty: Duty) -> Result<bool, Stop>
-        ensures answer { result ≡ once duty self.old.list.items }
+        ensures answer { result ≡ adding_once duty self.old.list.items }
         ensures items { self.new.list.items ≡ grown result duty self.old.list.items }
     {
         let own = bucket(&duty);
@@ -88,7 +88,7 @@ impl DutyList {
     #[inline(never)]
     fn add_searched(&mut self, own: usize, duty: Duty) -> Result<bool, Stop>
         requires { own ≡ bucket duty }
-        ensures answer { result ≡ once duty self.old.list.items }
+        ensures answer { result ≡ adding_once duty self.old.list.items }
         ensures items { self.new.list.items ≡ grown result duty self.old.list.items }
     {
         if self.search(&duty) {
@@ -101,7 +101,7 @@ impl DutyList {
     fn add_new(&mut self, own: usize, duty: Duty) -> Result<bool, Stop>
         requires place { own ≡ bucket duty }
         requires absent { has_duty duty self.old.list.items ≡ false }
-        ensures answer { result ≡ once duty self.old.list.items }
+        ensures answer { result ≡ adding_once duty self.old.list.items }
         ensures items { self.new.list.items ≡ grown result duty self.old.list.items }
     {
         if self.list.len() >= MOST_DUTIES {

@@ -1,9 +1,9 @@
 // The ends of spans.
 ghost use Rattle.std.specs.Prelude.{◌≡◌, ◌<◌, ℕ, Some, position, vec_len};
-ghost use Rattle.meaning.specs.Order.{Lives};
+ghost use Rattle.meaning.specs.WellFormed.{Present};
 ghost use Rattle.meaning.specs.Effects.{with_end, put as putting};
-ghost use Rattle.board.specs.Answers.{told};
-ghost use Rattle.board.specs.Held.{held};
+ghost use Rattle.board.specs.Outcomes.{outcome_of};
+ghost use Rattle.board.specs.Work.{work_of};
 ghost use Rattle.board.specs.Store.{has_serial};
 
 use crate::board::Board;
@@ -13,7 +13,7 @@ use value::End;
 impl Board {
     // What is known of the end of the span with this serial.
     pub fn end_of(&self, serial: u32) -> End
-        ensures { result ≡ (held self.now).ends serial }
+        ensures { result ≡ (work_of self.now).ends serial }
     {
         match self.place_of(serial) {
             Some(row) => self.end_at(row),
@@ -23,8 +23,8 @@ impl Board {
 
     // Puts the end of a span that runs. A contradiction is placed at `place`.
     pub fn put(&mut self, place: u16, end: End, serial: u32) -> Result<bool, Stop>
-        requires { Lives (held self.old).spans serial }
-        ensures { told result (held self.new) ≡ putting place end serial (held self.old) }
+        requires { Present (work_of self.old).spans serial }
+        ensures { outcome_of result (work_of self.new) ≡ putting place end serial (work_of self.old) }
     {
         let Some(row) = self.place_of(serial) else {
             // This cannot be: a span that runs has a row.
@@ -43,7 +43,7 @@ impl Board {
     // What is known of the end of the span whose row is at this place.
     fn end_at(&self, row: usize) -> End
         requires { row < vec_len self.now.rows }
-        ensures { (serial : ℕ) → position (has_serial serial) self.now.rows.items ≡ Some row → result ≡ (held self.now).ends serial }
+        ensures { (serial : ℕ) → position (has_serial serial) self.now.rows.items ≡ Some row → result ≡ (work_of self.now).ends serial }
     {
         self.rows[row].end
     }
@@ -51,7 +51,7 @@ impl Board {
     // Writes the end of the span whose row is at this place.
     fn set_end(&mut self, row: usize, end: End)
         requires { row < vec_len self.old.rows }
-        ensures { (serial : ℕ) → position (has_serial serial) self.old.rows.items ≡ Some row → held self.new ≡ with_end end serial (held self.old) }
+        ensures { (serial : ℕ) → position (has_serial serial) self.old.rows.items ≡ Some row → work_of self.new ≡ with_end end serial (work_of self.old) }
     {
         self.rows[row].end = end;
     }

@@ -10,11 +10,11 @@ mod known;
 mod lists;
 mod making;
 mod opens;
-mod parts;
 mod places;
+mod row;
 mod turning;
 mod values;
 
-pub use crate::answers::after;
+pub use crate::answers::afterwards;
 pub use crate::board::{Board, MOST_DUTIES, MOST_SPANS};
-pub use crate::parts::Row;
+pub use crate::row::Row;

@@ -1,7 +1,7 @@
 // How a board is made.
 ghost use Rattle.std.specs.Prelude.{◌≡◌, [], IfOk};
 ghost use Rattle.meaning.specs.Runs.{begun};
-ghost use Rattle.board.specs.Held.{held};
+ghost use Rattle.board.specs.Work.{work_of};
 
 use crate::board::{Board, MOST_SPANS};
 use crate::buckets::BUCKETS;
@@ -13,7 +13,7 @@ use std::alloc::{AllocError, Global};
 impl Board {
     // A board without spans and duties. Its memory is reserved here, for every state to come.
     pub fn new(heap: Global) -> Result<Board, AllocError>
-        ensures { IfOk result (λ b. held b ≡ begun [] [] 0) }
+        ensures { IfOk result (λ b. work_of b ≡ begun [] [] 0) }
     {
         let rows = Vec::with_capacity(heap, MOST_SPANS)?;
         let duties = DutyList::new(heap)?;

@@ -2,19 +2,19 @@
 ghost use Rattle.std.specs.Prelude.{◌≡◌, ◌<◌, vec_len};
 ghost use Rattle.meaning.specs.Work.{has_opened};
 ghost use Rattle.meaning.specs.Effects.{with_span, open_span};
-ghost use Rattle.board.specs.Answers.{told};
-ghost use Rattle.board.specs.Held.{held};
+ghost use Rattle.board.specs.Outcomes.{outcome_of};
+ghost use Rattle.board.specs.Work.{work_of};
 
 use crate::board::{Board, MOST_DUTIES, MOST_SPANS};
 use crate::buckets::{bucket, opened_in};
-use crate::parts::Row;
 use crate::places::hint_of;
+use crate::row::Row;
 use meaning::{Duty, Opening, Span, Stop};
 
 impl Board {
     // Opens a span and adds the duty of its body, once in a state.
     pub fn open(&mut self, opening: Opening) -> Result<bool, Stop>
-        ensures { told result (held self.new) ≡ open_span opening (held self.old) }
+        ensures { outcome_of result (work_of self.new) ≡ open_span opening (work_of self.old) }
     {
         if self.has_opened(opening) {
             return Ok(false);
@@ -28,7 +28,7 @@ impl Board {
 
     // Whether a span was opened so in this state. Mostly the bucket of what follows it says that none was.
     fn has_opened(&self, opening: Opening) -> bool
-        ensures { result ≡ has_opened opening (held self.now).spans }
+        ensures { result ≡ has_opened opening (work_of self.now).spans }
     {
         let own = bucket(&opening.follower);
         match self.rows.get(usize::from(self.openings[own])) {
@@ -39,7 +39,7 @@ impl Board {
 
     // The same, for which every row is asked.
     fn search_opened(&self, opening: Opening) -> bool
-        ensures { result ≡ has_opened opening (held self.now).spans }
+        ensures { result ≡ has_opened opening (work_of self.now).spans }
     {
         self.rows
             .iter()
@@ -50,7 +50,7 @@ impl Board {
     fn push_span(&mut self, opening: Opening)
         requires spans { vec_len self.old.rows < 64 }
         requires duties { vec_len self.old.duties.list < 512 }
-        ensures { held self.new ≡ with_span opening (held self.old) }
+        ensures { work_of self.new ≡ with_span opening (work_of self.old) }
     {
         let serial = self.next;
         // `as` stays: the place is below 64, and `try_from` would add an error that cannot come.

@@ -3,7 +3,7 @@ ghost use Rattle.std.specs.Prelude.{◌≡◌, ◌%◌, ◌≤◌, length, posit
 ghost use Rattle.board.specs.Store.{has_serial};
 
 use crate::board::Board;
-use crate::parts::Row;
+use crate::row::Row;
 
 // How many hints there are.
 pub(crate) const HINTS: usize = 64;

@@ -1,12 +1,12 @@
 // From one state to the next.
 ghost use Rattle.std.specs.Prelude.{◌≡◌, ◌+◌, ◌<◌, ◌≤◌, ◌++◌, replicate, vec_len, vec_capacity};
 ghost use Rattle.meaning.specs.Runs.{first_work, next_work};
-ghost use Rattle.board.specs.Held.{held};
+ghost use Rattle.board.specs.Work.{work_of};
 ghost use Rattle.board.specs.Store.{kept_rows};
 
 use crate::board::Board;
-use crate::parts::Row;
 use crate::places::hint_moved;
+use crate::row::Row;
 use meaning::Span;
 use sheet::MOST_VARIABLES;
 use value::End;
@@ -36,7 +36,7 @@ impl Board {
     // Goes on to the next state. The two lists of duties trade places; no duty is moved.
     pub fn turn(&mut self)
         requires { self.old.next ≤ 4200000 }
-        ensures { held self.new ≡ next_work (held self.old) }
+        ensures { work_of self.new ≡ next_work (work_of self.old) }
     {
         forget_values(&mut self.values);
         std::mem::swap(&mut self.duties, &mut self.carried);
@@ -49,7 +49,7 @@ impl Board {
 
     // Starts state 0 of a run of this statement.
     pub fn begin(&mut self, run: u16)
-        ensures { held self.new ≡ first_work run }
+        ensures { work_of self.new ≡ first_work run }
     {
         forget_values(&mut self.values);
         self.duties.clear();

@@ -1,4 +1,4 @@
 -- Lemmas that the proof of the law of runs uses.
 pub mod Moments
-pub mod Keeping
-pub mod Advances
+pub mod CallsKeepMoments
+pub mod AdvancesAlike

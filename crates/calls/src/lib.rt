@@ -1,9 +1,9 @@
 // What the calls on an engine answer, and what they do.
 #![tactic(auto)]
 
-mod parts;
-mod telling;
+mod answers;
+mod numbers;
 
-pub use crate::parts::{
+pub use crate::answers::{
     Cause, Condition, Denial, Ending, NotAdvanced, NotLoaded, Progress, Report,
 };

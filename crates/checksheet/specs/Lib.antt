@@ -1,2 +1,2 @@
 -- What the contract of this program says: the lines that are printed of a text that is refused.
-pub mod Lines
+pub mod RefusedText

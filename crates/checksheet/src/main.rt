@@ -4,9 +4,9 @@
 //     checksheet FILE    the text of this file
 #![tactic(auto)]
 
-mod telling;
+mod refused;
 
-use crate::telling::Refused;
+use crate::refused::Refused;
 use load::{ENOUGH, Loader};
 use std::io::{Read, Write};
 use std::process::ExitCode;

@@ -1,2 +1,2 @@
 -- What a call does, by what its answer is.
-mod Doing
+mod ExportAnswers

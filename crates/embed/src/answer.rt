@@ -1,16 +1,16 @@
 // What a call answers, in numbers.
 ghost use Rattle.std.specs.Prelude.{◌≡◌};
-ghost use Rattle.closing.specs.declared.closing.Closing.TheVariants.{NotLoaded as refused_so};
+ghost use Rattle.summary.specs.declared.closing.Closing.TheVariants.{NotLoaded as refused_so};
 ghost use Rattle.embed.specs.Answers.{answer_of, lacking, nothing, stopped_at};
 
 use calls::{Cause, NotAdvanced, NotLoaded, Progress};
-use closing::Closing;
 use meaning::Stop;
+use summary::Closing;
 
 // An answer in numbers. Those that it has no need of are 0.
 #[repr(C)]
 #[derive(Clone, Copy, Debug, PartialEq, Eq)]
-pub struct Answer {
+pub struct AnswerNumbers {
     // the published number of a refusal, a denial or a stop; or 50, where there is no memory
     pub number: u32,
     // the line and the word that a refusal means
@@ -30,12 +30,12 @@ pub struct Answer {
     pub length: usize,
 }
 
-impl Answer {
+impl AnswerNumbers {
     // An answer that tells nothing.
-    pub fn nothing() -> Answer
+    pub fn nothing() -> AnswerNumbers
         ensures { result ≡ nothing }
     {
-        Answer {
+        AnswerNumbers {
             number: 0,
             line: 0,
             word: 0,
@@ -49,70 +49,70 @@ impl Answer {
     }
 
     // There is no memory for what the call needs.
-    pub fn lacking() -> Answer
+    pub fn lacking() -> AnswerNumbers
         ensures { result ≡ lacking }
     {
-        Answer {
+        AnswerNumbers {
             number: 50,
-            ..Answer::nothing()
+            ..AnswerNumbers::nothing()
         }
     }
 
     // What is to be told at the end.
-    pub fn of(closing: Closing) -> Answer
+    pub fn of(closing: Closing) -> AnswerNumbers
         ensures { result ≡ answer_of closing }
     {
         match closing {
-            Closing::NotLoaded(text) => Answer::refused(text),
-            Closing::Advanced(Ok(Progress::Finished(states))) => Answer {
+            Closing::NotLoaded(text) => AnswerNumbers::refused(text),
+            Closing::Advanced(Ok(Progress::Finished(states))) => AnswerNumbers {
                 finished: true,
                 states,
-                ..Answer::nothing()
+                ..AnswerNumbers::nothing()
             },
-            Closing::Advanced(Ok(Progress::Open(states))) => Answer {
+            Closing::Advanced(Ok(Progress::Open(states))) => AnswerNumbers {
                 states,
-                ..Answer::nothing()
+                ..AnswerNumbers::nothing()
             },
-            Closing::Advanced(Err(NotAdvanced::Denied(denial))) => Answer {
+            Closing::Advanced(Err(NotAdvanced::Denied(denial))) => AnswerNumbers {
                 number: u32::from(denial.number()),
-                ..Answer::nothing()
+                ..AnswerNumbers::nothing()
             },
-            Closing::Advanced(Err(NotAdvanced::Full(state))) => Answer {
+            Closing::Advanced(Err(NotAdvanced::Full(state))) => AnswerNumbers {
                 number: u32::from(NotAdvanced::Full(state).number()),
                 states: state as usize,
-                ..Answer::nothing()
+                ..AnswerNumbers::nothing()
             },
-            Closing::Advanced(Err(NotAdvanced::Stopped(cause))) => Answer::stopped(cause),
+            Closing::Advanced(Err(NotAdvanced::Stopped(cause))) => AnswerNumbers::stopped(cause),
         }
     }
 
     // A text that is not loaded.
-    fn refused(text: NotLoaded) -> Answer
+    fn refused(text: NotLoaded) -> AnswerNumbers
         ensures { result ≡ answer_of (refused_so text) }
     {
-        Answer {
+        AnswerNumbers {
             number: u32::from(text.number()),
             line: text.line(),
             word: u32::from(text.word()),
-            ..Answer::nothing()
+            ..AnswerNumbers::nothing()
         }
     }
 
     // A run that met a stop.
-    fn stopped(cause: Cause) -> Answer
+    fn stopped(cause: Cause) -> AnswerNumbers
         ensures { result ≡ stopped_at cause.state cause.stop }
     {
-        let stopped = Answer {
+        let stopped = AnswerNumbers {
             number: u32::from(cause.number()),
             states: cause.state as usize,
-            ..Answer::nothing()
+            ..AnswerNumbers::nothing()
         };
         match cause.stop {
-            Stop::Contradiction(statement) => Answer {
+            Stop::Contradiction(statement) => AnswerNumbers {
                 statement: u32::from(statement),
                 ..stopped
             },
-            Stop::Undetermined(left) => Answer {
+            Stop::Undetermined(left) => AnswerNumbers {
                 variable: u32::from(left.number()),
                 ..stopped
             },

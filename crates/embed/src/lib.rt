@@ -5,7 +5,7 @@
 mod answer;
 mod exports;
 
-pub use crate::answer::Answer;
+pub use crate::answer::AnswerNumbers;
 
 #[cfg(test)]
 mod tests;

@@ -1,5 +1,5 @@
 // What a call answers, and what it writes.
-use crate::answer::Answer;
+use crate::answer::AnswerNumbers;
 use crate::exports::{domgrauja_check, domgrauja_run_numbers, domgrauja_run_text};
 use feed::Reading;
 
@@ -66,10 +66,10 @@ fn texts(rt: HostRuntime) {
     let [a, b] = told(0, 1, 0);
     let [c, d] = told(1, 0, 0);
     let one = domgrauja_run_text(rt.alloc(), BARRIER, &[a, b, c, d], 1, &mut bytes);
-    let want = Answer {
+    let want = AnswerNumbers {
         length: 23,
         states: 1,
-        ..Answer::nothing()
+        ..AnswerNumbers::nothing()
     };
     assert!(rt; one == want);
     assert!(rt; bytes.starts_with(b"state=0\nv0=1\nv1=0\nv2=0\n."));

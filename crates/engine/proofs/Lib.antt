@@ -1,3 +1,3 @@
 -- Lemmas that the proofs of this crate use: one state more, and the law of runs.
-pub mod Onward
-pub mod Runs
+pub mod OneMoreState
+pub mod LawOfRuns

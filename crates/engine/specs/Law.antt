@@ -4,12 +4,12 @@ use Rattle.sheet.specs.Content.{Content}
 use Rattle.feed.specs.Readings.{SameReadings}
 use Rattle.meaning.specs.Intervals.{under, States}
 use Rattle.meaning.specs.Holds.{Satisfies}
-use Rattle.calls.specs.declared.parts.Denial.{Denial}
-use Rattle.calls.specs.Meant.{Recording}
-use Rattle.calls.specs.Told.{Told, done, told_denial, says_finished, says_contradiction}
+use Rattle.calls.specs.declared.answers.Denial.{Denial}
+use Rattle.calls.specs.Standing.{Recording}
+use Rattle.calls.specs.Published.{PublishedAnswer, done, published_denial, says_finished, says_contradiction}
 use Rattle.calls.specs.Calls.{Loads, Begins, Advances, Abandons}
 use Rattle.engine.specs.declared.engine.Engine.{Engine}
-use Rattle.engine.specs.Held.{meant}
+use Rattle.engine.specs.Meant.{meant}
 
 -- a run of the sheet s with one recorder and one feed, which has the readings f: the engine and the recording after one of its calls,
 -- whether an advance has answered that it finished, and whether one has answered that it met a contradiction.
@@ -17,13 +17,13 @@ pub data Run (s : Content) (f : ℕ → ℕ → Option ℤ) : Engine → Recordi
   -- a begin that is not denied opens a run of the sheet that the engine holds
   begun : (e d : Engine) (q p : Recording) (capacity : ℕ → ℕ) → (meant e).sheet ≡ s → Begins capacity (meant e) q done (meant d) p → Run s f d p false false
   -- a begin that is denied
-  begin_denied : (e d : Engine) (q p : Recording) (x y : Bool) (capacity : ℕ → ℕ) (z : Denial) → Run s f e q x y → Begins capacity (meant e) q (told_denial z) (meant d) p → Run s f d p x y
+  begin_denied : (e d : Engine) (q p : Recording) (x y : Bool) (capacity : ℕ → ℕ) (z : Denial) → Run s f e q x y → Begins capacity (meant e) q (published_denial z) (meant d) p → Run s f d p x y
   -- a load, loaded, refused or denied
-  loaded : (e d : Engine) (q : Recording) (x y : Bool) (text : List ℕ) (a : Told) → Run s f e q x y → Loads text (meant e) a (meant d) → Run s f d q x y
+  loaded : (e d : Engine) (q : Recording) (x y : Bool) (text : List ℕ) (a : PublishedAnswer) → Run s f e q x y → Loads text (meant e) a (meant d) → Run s f d q x y
   -- an advance, whatever it answers
-  advanced : (e d : Engine) (q p : Recording) (x y : Bool) (n : ℕ) (a : Told) → Run s f e q x y → Advances f n (meant e) q a (meant d) p → Run s f d p (x || says_finished a) (y || says_contradiction a)
+  advanced : (e d : Engine) (q p : Recording) (x y : Bool) (n : ℕ) (a : PublishedAnswer) → Run s f e q x y → Advances f n (meant e) q a (meant d) p → Run s f d p (x || says_finished a) (y || says_contradiction a)
   -- an abandon, whatever it answers
-  abandoned : (e d : Engine) (q : Recording) (x y : Bool) (a : Told) → Run s f e q x y → Abandons (meant e) a (meant d) → Run s f d q x y
+  abandoned : (e d : Engine) (q : Recording) (x y : Bool) (a : PublishedAnswer) → Run s f e q x y → Abandons (meant e) a (meant d) → Run s f d q x y
   -- a call that tells something and changes nothing that the engine means: a report, a look, or one that tells of sheets
   asked : (e d : Engine) (q : Recording) (x y : Bool) → Run s f e q x y → meant d ≡ meant e → Run s f d q x y
 

@@ -1,28 +1,28 @@
 // The calls on an engine that settle no state.
 ghost use Rattle.std.specs.Prelude.{◌≡◌, ℕ, IfOk, Ok as ok, Err as err};
-ghost use Rattle.sheet.specs.Held.{first};
+ghost use Rattle.sheet.specs.Tables.{first_sheet};
 ghost use Rattle.record.specs.Owned.{LeavesOwner};
 ghost use Rattle.calls.specs.AnyOrder.{AdvancesAgree};
-ghost use Rattle.calls.specs.declared.parts.Denial.{Denial as Reason};
+ghost use Rattle.calls.specs.declared.answers.Denial.{Denial as Reason};
 ghost use Rattle.calls.specs.Calls.{Loads, Begins, Abandons, report_of};
-ghost use Rattle.calls.specs.Meant.{idle, recording};
-ghost use Rattle.calls.specs.Told.{told, to_load, to_begin, to_abandon};
-ghost use Rattle.engine.specs.Held.{meant};
+ghost use Rattle.calls.specs.Standing.{idle, recording};
+ghost use Rattle.calls.specs.Published.{published, to_load, to_begin, to_abandon};
+ghost use Rattle.engine.specs.Meant.{meant};
 ghost use Rattle.engine.specs.Law.{LawOfRuns};
 
 use crate::engine::Engine;
-use crate::events::{Event, meet};
+use crate::events::{Event, admit};
 use calls::{Condition, Denial, NotLoaded, Report};
 use load::Loader;
 use record::Recorder;
-use states::Settler;
+use settling::Settler;
 use std::alloc::{AllocError, Global};
 
 impl Engine {
     // An idle engine that holds the sheet `var=a 0 0`, `stmt=empty`, `run=0`. Nothing allocates after this.
-    // Every run of it, and of any other engine, keeps the law of runs. An advance whose states were visited in another order would record the same and answer alike.
+    // Every run of it, and of any other engine, keeps the law of runs. Advances that go on by the rules of settling, each in whichever order, record the same and answer alike.
     pub fn new(heap: Global) -> Result<Engine, AllocError>
-        ensures holds { IfOk result (λ e. meant e ≡ record { sheet = first; standing = idle }) }
+        ensures holds { IfOk result (λ e. meant e ≡ record { sheet = first_sheet; standing = idle }) }
         ensures runs { LawOfRuns }
         ensures order { AdvancesAgree }
     {
@@ -37,9 +37,9 @@ impl Engine {
 
     // Loads the sheet that a text spells, and is idle then. Denied while a run is open.
     pub fn load(&mut self, text: &[u8]) -> Result<(), NotLoaded>
-        ensures { Loads text.now (meant self.old) (told (to_load result)) (meant self.new) }
+        ensures { Loads text.now (meant self.old) (published (to_load result)) (meant self.new) }
     {
-        meet(&mut self.condition, Event::Load).map_err(|_| NotLoaded::RunIsOpen)?;
+        admit(&mut self.condition, Event::Load).map_err(|_| NotLoaded::RunIsOpen)?;
         self.loader.load(text).map_err(NotLoaded::Refused)?;
         self.condition = Condition::Idle;
         Ok(())
@@ -47,13 +47,13 @@ impl Engine {
 
     // Starts the recorder for the sheet that is held, and opens a run. Denied while a run is open.
     pub fn begin<R: Recorder>(&mut self, recorder: &mut R) -> Result<(), Denial>
-        ensures outcome { Begins (R.capacity recorder.old) (meant self.old) (recording R.states R.breadth R.spare recorder.old) (told (to_begin result)) (meant self.new) (recording R.states R.breadth R.spare recorder.new) }
-        ensures untouched { (k : ℕ) → R.cell recorder.new k ≡ R.cell recorder.old k }
-        ensures owner { LeavesOwner R.capacity R.lent R.reach R.cell recorder.old recorder.new }
-        ensures reached { result ≡ ok tt → R.reach recorder.new ≡ 0 }
+        ensures outcome { Begins (R.capacity recorder.old) (meant self.old) (recording R.states R.state_width R.room_left recorder.old) (published (to_begin result)) (meant self.new) (recording R.states R.state_width R.room_left recorder.new) }
+        ensures untouched { (k : ℕ) → R.memory_at recorder.new k ≡ R.memory_at recorder.old k }
+        ensures owner { LeavesOwner R.capacity R.memory_name R.written_length R.memory_at recorder.old recorder.new }
+        ensures reached { result ≡ ok tt → R.written_length recorder.new ≡ 0 }
         ensures denied { (d : Reason) → result ≡ err d → recorder.new ≡ recorder.old }
     {
-        meet(&mut self.condition, Event::Begin)?;
+        admit(&mut self.condition, Event::Begin)?;
         let sheet = self.loader.sheet();
         let _ = recorder.start(sheet.tables.variables.len());
         self.settler.begin(sheet.run);
@@ -63,9 +63,9 @@ impl Engine {
 
     // Gives the open run up.
     pub fn abandon(&mut self) -> Result<(), Denial>
-        ensures { Abandons (meant self.old) (told (to_abandon result)) (meant self.new) }
+        ensures { Abandons (meant self.old) (published (to_abandon result)) (meant self.new) }
     {
-        meet(&mut self.condition, Event::Abandon)
+        admit(&mut self.condition, Event::Abandon)
     }
 
     // The engine's condition, with the count of states where a run is open.

@@ -1,7 +1,7 @@
 // An engine.
 use calls::Condition;
 use load::Loader;
-use states::Settler;
+use settling::Settler;
 
 // Holds a sheet, the memory to settle its states, and the condition of its run. All memory is reserved when it is made.
 #[derive(Drop)]

@@ -1,6 +1,6 @@
 // What may happen to an engine, and in which condition.
 ghost use Rattle.std.specs.Prelude.{◌≡◌};
-ghost use Rattle.engine.specs.Events.{met, turned};
+ghost use Rattle.engine.specs.Events.{admitted, after_event};
 
 use calls::{Condition, Denial, Ending};
 
@@ -18,9 +18,9 @@ pub(crate) enum Event {
 }
 
 // Whether an event is allowed in a condition. To abandon ends the run.
-pub(crate) fn meet(condition: &mut Condition, event: Event) -> Result<(), Denial>
-    ensures answer { result ≡ met condition.old event }
-    ensures after { condition.new ≡ turned condition.old event }
+pub(crate) fn admit(condition: &mut Condition, event: Event) -> Result<(), Denial>
+    ensures answer { result ≡ admitted condition.old event }
+    ensures after { condition.new ≡ after_event condition.old event }
 {
     match (&mut *condition, event) {
         (Condition::Open, Event::Load | Event::Begin) => Err(Denial::RunIsOpen),

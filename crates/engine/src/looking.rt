@@ -2,9 +2,9 @@
 ghost use Rattle.std.specs.Prelude.{◌≡◌};
 ghost use Rattle.load.specs.Naming.{NameOf};
 ghost use Rattle.calls.specs.Calls.{look_of};
-ghost use Rattle.calls.specs.Meant.{recording};
-ghost use Rattle.calls.specs.Told.{told, to_look};
-ghost use Rattle.engine.specs.Held.{meant};
+ghost use Rattle.calls.specs.Standing.{recording};
+ghost use Rattle.calls.specs.Published.{published, to_look};
+ghost use Rattle.engine.specs.Meant.{meant};
 
 use crate::engine::Engine;
 use calls::Denial;
@@ -19,7 +19,7 @@ impl Engine {
         state: usize,
         variable: usize,
     ) -> Result<i64, Denial>
-        ensures { told (to_look result) ≡ look_of (recording R.states R.breadth R.spare recorder.now) state variable }
+        ensures { published (to_look result) ≡ look_of (recording R.states R.state_width R.room_left recorder.now) state variable }
     {
         if state >= recorder.count() {
             return Err(Denial::NoSuchState);

@@ -5,8 +5,8 @@
 #![tactic(auto)]
 
 mod bench;
+mod differences;
 mod playing;
-mod telling;
 mod trying;
 
 use crate::bench::Bench;

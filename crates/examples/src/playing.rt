@@ -1,15 +1,15 @@
 // Runs worked sheets.
 use crate::bench::Bench;
-use crate::telling::{show_both, tell};
-use answers::Answer;
-use closing::{Closing, MOST_CLOSING, closing_lines};
+use crate::differences::{show_both, tell};
+use cases::{WorkedSheet, reading_of};
 use engine::{Ending, Engine, MOST_ASKED, NotAdvanced, Progress, Report};
 use feed::{Feed, ListFeed};
 use record::{Recorder, TableRecorder};
+use script::Answer;
 use std::alloc::Global;
 use std::io;
 use std::io::Write;
-use worked::{WorkedSheet, reading_of};
+use summary::{Closing, MOST_CLOSING, closing_lines};
 
 // Runs a worked sheet, and compares its record, its closing lines and the report. Says whether all are as expected.
 pub fn play(

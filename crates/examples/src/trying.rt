@@ -1,15 +1,14 @@
 // Tries the examples of a table.
 use crate::bench::Bench;
+use crate::differences::{show_both, tell};
 use crate::playing::play;
-use crate::telling::{show_both, tell};
-use closing::MOST_CLOSING;
+use cases::{Example, Kind, LoadedText, ShownText, next_example, unpacked};
 use engine::MOST_ASKED;
 use feed::Silent;
-use showing::show;
 use std::io;
 use std::io::Write;
+use summary::{MOST_CLOSING, show};
 use text::Reader;
-use worked::{Example, Kind, LoadedText, ShownText, next_example, unpacked};
 
 // Tries all examples of a table, and counts them.
 pub fn try_table(rt: &HostRuntime, bench: &mut Bench, table: &[u8]) -> io::Result<()> {

@@ -1,3 +1,3 @@
 -- Lemmas that the proofs of this crate, and of those above it, use.
-pub mod Sorted
+pub mod RecordOrder
 pub mod Halves

@@ -3,19 +3,19 @@ use Rattle.std.specs.Prelude.{ℕ, ◌+◌, ◌*◌, min, Bool, ◌&&◌, List, 
 use Rattle.std.specs.List.{find}
 use Rattle.std.specs.Option.{option_map}
 use Rattle.feed.specs.declared.list.Reading.{Reading}
-use Rattle.feed.specs.Readings.{in_range}
+use Rattle.feed.specs.Readings.{within_domain}
 
 -- whether a record is for this variable and this state
 abbrev pub matches : ℕ → ℕ → Reading → Bool
 matches variable state r = r.state == state && r.variable == variable
 
 -- the number of the first record for this variable and this state
-abbrev pub first : List Reading → ℕ → ℕ → Option ℤ
-first rs variable state = option_map (λ (r : Reading). r.number) (find (matches variable state) rs)
+abbrev pub first_reading : List Reading → ℕ → ℕ → Option ℤ
+first_reading rs variable state = option_map (λ (r : Reading). r.number) (find (matches variable state) rs)
 
 -- what a list of records reads: the first record counts, and one outside the ranges never does
-abbrev pub listed : List Reading → ℕ → ℕ → Option ℤ
-listed rs variable state = in_range variable state (first rs variable state)
+abbrev pub list_reads : List Reading → ℕ → ℕ → Option ℤ
+list_reads rs variable state = within_domain variable state (first_reading rs variable state)
 
 -- where a variable and a state stand in the order of states, and of variables in a state; all variables above 15 count alike
 abbrev pub ranked : ℕ → ℕ → ℕ

@@ -2,7 +2,7 @@
 ghost use Rattle.std.specs.Prelude.{◌≡◌, ◌^◌, ◌<◌, true};
 ghost use Rattle.std.specs.List.Sorted.{IsNonDecreasingBy};
 ghost use Rattle.std.proofs.Common.{rules};
-ghost use Rattle.feed.specs.Lists.{listed, first, rank, ranked};
+ghost use Rattle.feed.specs.Lists.{list_reads, first_reading, rank, ranked};
 
 use crate::feed::{Feed, STATES, VARIABLES};
 
@@ -39,7 +39,7 @@ impl<'a> ListFeed<'a> {
 // What a list of records means.
 impl<'a> Feed for ListFeed<'a> {
     // The number of the first record, in the ranges.
-    ghost readings = { λ s. listed s.list.now };
+    ghost readings = { λ s. list_reads s.list.now };
 
     // Searches the list for the first record, by halves where it rises.
     fn reading(&self, variable: usize, state: usize) -> Option<i64> {
@@ -59,7 +59,7 @@ impl<'a> Feed for ListFeed<'a> {
 
 // The number of the first record for a variable and a state, from the front on.
 fn from_the_front(list: &[Reading], variable: usize, state: usize) -> Option<i64>
-    ensures { result ≡ first list.now variable state }
+    ensures { result ≡ first_reading list.now variable state }
 {
     // There is no `From<u32>` for `usize`, so a record's numbers widen by `as`.
     list.iter()
@@ -71,7 +71,7 @@ fn from_the_front(list: &[Reading], variable: usize, state: usize) -> Option<i64
 fn by_halves(list: &[Reading], variable: usize, state: usize) -> Option<i64>
     requires small { (variable < 16) × (state < 65535) }
     requires rises { IsNonDecreasingBy rank list.now }
-    ensures { result ≡ first list.now variable state }
+    ensures { result ≡ first_reading list.now variable state }
 {
     let wanted = ranked(variable as u64, state as u64);
     let place = list.partition_point(|r| rank(r) < wanted);

@@ -1,2 +1,4 @@
-pub mod Forms
-pub mod Reading
+pub mod Operations
+pub mod Lines
+pub mod WordMeanings
+pub mod Faults

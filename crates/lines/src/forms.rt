@@ -1,6 +1,6 @@
 // The keys of lines.
 ghost use Rattle.std.specs.Prelude.{◌≡◌};
-ghost use Rattle.lines.specs.Forms.{keyword_of};
+ghost use Rattle.lines.specs.Operations.{keyword_of};
 
 use crate::items::Keyword;
 

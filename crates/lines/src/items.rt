@@ -42,18 +42,18 @@ pub enum Role {
 
 // One thing for each of the three words after an operation.
 #[derive(Clone, Copy, Debug, PartialEq, Eq)]
-pub struct Triple<T> {
+pub struct OperandSlots<T> {
     pub first: T,
     pub second: T,
     pub third: T,
 }
 
-impl<T> Triple<T> {
+impl<T> OperandSlots<T> {
     // The three, in the order of their words.
-    pub(crate) fn new(first: T, second: T, third: T) -> Triple<T>
+    pub(crate) fn new(first: T, second: T, third: T) -> OperandSlots<T>
         ensures { result ≡ record { first = first; second = second; third = third } }
     {
-        Triple {
+        OperandSlots {
             first,
             second,
             third,
@@ -62,10 +62,10 @@ impl<T> Triple<T> {
 }
 
 // The roles of the words after an operation; none where there is no such word.
-pub type Roles = Triple<Option<Role>>;
+pub type Roles = OperandSlots<Option<Role>>;
 
 // The numbers of the operands. One that is absent is 0, and no option, since an operation takes those that it has, and would have to ask again.
-pub type Operands = Triple<u16>;
+pub type Operands = OperandSlots<u16>;
 
 // The words of a line, one to four, as parts of the line itself.
 #[derive(Clone, Copy, Debug, PartialEq, Eq)]

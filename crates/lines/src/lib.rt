@@ -1,4 +1,5 @@
-// Reads the lines of a sheet: what each one says after those before it, or its fault.
+// Reads the lines of a sheet: what each one says after those before it, or its fault; and the law that the fault that is told is the first that applies.
+// The law has no code of its own: it stands on the call that loads a text, by way of the law of refusals.
 #![tactic(auto)]
 
 mod forms;
@@ -9,5 +10,5 @@ mod shapes;
 mod sizes;
 mod words;
 
-pub use crate::items::{Fault, Keyword, Operands, Role, Roles, Triple, Words};
+pub use crate::items::{Fault, Keyword, OperandSlots, Operands, Role, Roles, Words};
 pub use crate::readers::read_line;

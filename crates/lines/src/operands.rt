@@ -1,10 +1,10 @@
 // The operands of a line, with their faults in the order of their numbers.
 ghost use Rattle.std.specs.Prelude.{◌≡◌};
-ghost use Rattle.drafts.specs.Said.{said};
-ghost use Rattle.lines.specs.Reading.{spelled, word_in, numeral, resolved, there, operands};
+ghost use Rattle.sheet.specs.PartialSheet.{partial_sheet_of};
+ghost use Rattle.lines.specs.Lines.{word_list, word_in, operand_number, resolved, check_exists, operands};
 
-use crate::items::{Fault, Operands, Role, Roles, Triple, Words};
-use drafts::Draft;
+use crate::items::{Fault, OperandSlots, Operands, Role, Roles, Words};
+use sheet::Draft;
 
 // The largest number of an operand.
 const MOST_OPERAND: u32 = 199;
@@ -19,8 +19,8 @@ pub(crate) struct Operand<'a> {
 
 impl<'a> Operand<'a> {
     // The number that the word writes.
-    pub(crate) fn numeral(self) -> Result<u16, Fault>
-        ensures { result ≡ numeral self.entry.at self.entry.role self.entry.word.now }
+    pub(crate) fn operand_number(self) -> Result<u16, Fault>
+        ensures { result ≡ operand_number self.entry.at self.entry.role self.entry.word.now }
     {
         match self.role {
             None | Some(Role::Variable) => Ok(0),
@@ -34,7 +34,7 @@ impl<'a> Operand<'a> {
 
     // The number of the variable that the word names, where it is to name one.
     fn resolve(self, draft: &Draft, n: u16) -> Result<u16, Fault>
-        ensures { result ≡ resolved (said draft.now) self.entry.at self.entry.role self.entry.word.now n }
+        ensures { result ≡ resolved (partial_sheet_of draft.now) self.entry.at self.entry.role self.entry.word.now n }
     {
         match self.role {
             None | Some(Role::Expression) | Some(Role::Statement) => Ok(n),
@@ -48,8 +48,8 @@ impl<'a> Operand<'a> {
     }
 
     // The number again, where an expression or a statement has it.
-    pub(crate) fn look_there(self, draft: &Draft, n: u16) -> Result<u16, Fault>
-        ensures { result ≡ there (said draft.now) self.entry.at self.entry.role n }
+    pub(crate) fn check_exists(self, draft: &Draft, n: u16) -> Result<u16, Fault>
+        ensures { result ≡ check_exists (partial_sheet_of draft.now) self.entry.at self.entry.role n }
     {
         let count = match self.role {
             None | Some(Role::Variable) => return Ok(n),
@@ -66,7 +66,7 @@ impl<'a> Operand<'a> {
 
 // The operands in the second, third and fourth word of a line.
 pub(crate) fn read_operands(draft: &Draft, roles: Roles, words: Words) -> Result<Operands, Fault>
-    ensures { result ≡ operands (said draft.now) roles (word_in (spelled words.entry) 1) (word_in (spelled words.entry) 2) (word_in (spelled words.entry) 3) }
+    ensures { result ≡ operands (partial_sheet_of draft.now) roles (word_in (word_list words.entry) 1) (word_in (word_list words.entry) 2) (word_in (word_list words.entry) 3) }
 {
     let rest = words.rest();
     // Three literals, since a call with a number, a role and a word would name none of them.
@@ -85,15 +85,19 @@ pub(crate) fn read_operands(draft: &Draft, roles: Roles, words: Words) -> Result
         role: roles.third,
         word: rest.third,
     };
-    let (i, j, k) = (a.numeral()?, b.numeral()?, c.numeral()?);
+    let (i, j, k) = (
+        a.operand_number()?,
+        b.operand_number()?,
+        c.operand_number()?,
+    );
     let (i, j, k) = (
         a.resolve(draft, i)?,
         b.resolve(draft, j)?,
         c.resolve(draft, k)?,
     );
-    Ok(Triple::new(
-        a.look_there(draft, i)?,
-        b.look_there(draft, j)?,
-        c.look_there(draft, k)?,
+    Ok(OperandSlots::new(
+        a.check_exists(draft, i)?,
+        b.check_exists(draft, j)?,
+        c.check_exists(draft, k)?,
     ))
 }

@@ -1,7 +1,7 @@
 // What a line says, or its fault.
 ghost use Rattle.std.specs.Prelude.{◌≡◌};
-ghost use Rattle.drafts.specs.Said.{said};
-ghost use Rattle.lines.specs.Reading.{spelled, allowed, full, sized, operation_of, constant, expression_of, statement_of, bound, upward, fresh, variable_of, run_of, admitted, item_of, line_of};
+ghost use Rattle.sheet.specs.PartialSheet.{partial_sheet_of};
+ghost use Rattle.lines.specs.Lines.{word_list, allowed, key_full, sized, operation_of, constant, expression_of, statement_of, bound, check_not_below, fresh, variable_of, run_of, checked_key, item_of, line_of};
 
 use crate::forms;
 use crate::items::{Fault, Keyword, Role, Words};
@@ -9,8 +9,7 @@ use crate::operands::{Operand, read_operands};
 use crate::shapes::Operation;
 use crate::sizes::expression_size;
 use crate::words::cut_words;
-use drafts::{Draft, Item};
-use sheet::{Expression, Name, Variable};
+use sheet::{Draft, Expression, Item, Name, Variable};
 use text::Reader;
 
 // The longest line, in bytes.
@@ -21,7 +20,7 @@ const MOST_SIZE: u64 = 1_000_000_000;
 
 // An expression with its size.
 fn with_size(draft: &Draft, e: Expression) -> Result<Item, Fault>
-    ensures { result ≡ sized (said draft.now) e }
+    ensures { result ≡ sized (partial_sheet_of draft.now) e }
 {
     let size = expression_size(draft, e);
     if size <= MOST_SIZE {
@@ -34,7 +33,7 @@ fn with_size(draft: &Draft, e: Expression) -> Result<Item, Fault>
 
 // The operation that the words of a line name, with the operands that they tell.
 fn read_operation<O: Operation>(draft: &Draft, words: Words) -> Result<O, Fault>
-    ensures { result ≡ operation_of O.named O.roles O.with (said draft.now) (spelled words.entry) }
+    ensures { result ≡ operation_of O.named O.roles O.with (partial_sheet_of draft.now) (word_list words.entry) }
 {
     let operation = O::named(words).ok_or(Fault::Form)?;
     let operands = read_operands(draft, operation.roles(), words)?;
@@ -43,7 +42,7 @@ fn read_operation<O: Operation>(draft: &Draft, words: Words) -> Result<O, Fault>
 
 // The constant of `num C`.
 fn read_constant(draft: &Draft, word: &[u8]) -> Result<Item, Fault>
-    ensures { result ≡ constant (said draft.now) word.now }
+    ensures { result ≡ constant (partial_sheet_of draft.now) word.now }
 {
     let n = text::number(word).ok_or(Fault::Number(2))?;
     with_size(draft, Expression::Num(n))
@@ -51,7 +50,7 @@ fn read_constant(draft: &Draft, word: &[u8]) -> Result<Item, Fault>
 
 // An `expr` line.
 fn read_expression(draft: &Draft, words: Words) -> Result<Item, Fault>
-    ensures { result ≡ expression_of (said draft.now) (spelled words.entry) }
+    ensures { result ≡ expression_of (partial_sheet_of draft.now) (word_list words.entry) }
 {
     match words {
         Words::Two(b"num", a) => read_constant(draft, a),
@@ -61,7 +60,7 @@ fn read_expression(draft: &Draft, words: Words) -> Result<Item, Fault>
 
 // A `stmt` line.
 fn read_statement(draft: &Draft, words: Words) -> Result<Item, Fault>
-    ensures { result ≡ statement_of (said draft.now) (spelled words.entry) }
+    ensures { result ≡ statement_of (partial_sheet_of draft.now) (word_list words.entry) }
 {
     Ok(Item::Statement(read_operation(draft, words)?))
 }
@@ -74,8 +73,8 @@ fn read_bound(at: u8, word: &[u8]) -> Result<i32, Fault>
 }
 
 // HIGH, which is not below LOW.
-fn upward_from(low: i32, high: i32) -> Result<i32, Fault>
-    ensures { result ≡ upward low high }
+fn check_not_below(low: i32, high: i32) -> Result<i32, Fault>
+    ensures { result ≡ check_not_below low high }
 {
     if low <= high {
         Ok(high)
@@ -86,7 +85,7 @@ fn upward_from(low: i32, high: i32) -> Result<i32, Fault>
 
 // A name that is not declared yet.
 fn fresh_name(draft: &Draft, word: &[u8]) -> Result<Name, Fault>
-    ensures { result ≡ fresh (said draft.now) word.now }
+    ensures { result ≡ fresh (partial_sheet_of draft.now) word.now }
 {
     sheet::make_name(word)
         .filter(|name| sheet::find_variable(&draft.tables.variables, *name).is_none())
@@ -95,34 +94,34 @@ fn fresh_name(draft: &Draft, word: &[u8]) -> Result<Name, Fault>
 
 // A `var` line.
 fn read_variable(draft: &Draft, words: Words) -> Result<Item, Fault>
-    ensures { result ≡ variable_of (said draft.now) (spelled words.entry) }
+    ensures { result ≡ variable_of (partial_sheet_of draft.now) (word_list words.entry) }
 {
     let Words::Three(word, a, b) = words else {
         return Err(Fault::Form);
     };
     let low = read_bound(2, a)?;
     let high = read_bound(3, b)?;
-    let high = upward_from(low, high)?;
+    let high = check_not_below(low, high)?;
     let name = fresh_name(draft, word)?;
     Ok(Item::Variable(Variable { name, low, high }))
 }
 
 // A `run` line.
 fn read_run(draft: &Draft, words: Words) -> Result<Item, Fault>
-    ensures { result ≡ run_of (said draft.now) (spelled words.entry) }
+    ensures { result ≡ run_of (partial_sheet_of draft.now) (word_list words.entry) }
 {
     let Words::One(word) = words else {
         return Err(Fault::Form);
     };
     let role = Some(Role::Statement);
     let operand = Operand { at: 1, role, word };
-    let n = operand.look_there(draft, operand.numeral()?)?;
+    let n = operand.check_exists(draft, operand.operand_number()?)?;
     Ok(Item::Run(n))
 }
 
 // Whether a line with this key may stand here.
 fn may_stand(draft: &Draft, key: Keyword) -> bool
-    ensures { result ≡ allowed (said draft.now) key }
+    ensures { result ≡ allowed (partial_sheet_of draft.now) key }
 {
     let tables = &draft.tables;
     match key {
@@ -140,7 +139,7 @@ fn may_stand(draft: &Draft, key: Keyword) -> bool
 
 // Whether there are already as many lines with this key as there may be.
 fn is_full(draft: &Draft, key: Keyword) -> bool
-    ensures { result ≡ full (said draft.now) key }
+    ensures { result ≡ key_full (partial_sheet_of draft.now) key }
 {
     match key {
         Keyword::Sheet => true,
@@ -152,8 +151,8 @@ fn is_full(draft: &Draft, key: Keyword) -> bool
 }
 
 // A line's key, where it may come.
-fn admit(draft: &Draft, key: Keyword) -> Result<Keyword, Fault>
-    ensures { result ≡ admitted (said draft.now) key }
+fn check_key(draft: &Draft, key: Keyword) -> Result<Keyword, Fault>
+    ensures { result ≡ checked_key (partial_sheet_of draft.now) key }
 {
     if !may_stand(draft, key) {
         Err(Fault::Key)
@@ -166,7 +165,7 @@ fn admit(draft: &Draft, key: Keyword) -> Result<Keyword, Fault>
 
 // A line with this key and these words.
 fn read_item(draft: &Draft, key: Keyword, words: Words) -> Result<Item, Fault>
-    ensures { result ≡ item_of (said draft.now) key (spelled words.entry) }
+    ensures { result ≡ item_of (partial_sheet_of draft.now) key (word_list words.entry) }
 {
     // An arm a key, since that is what the format says: each kind of line has its own form.
     match key {
@@ -180,14 +179,14 @@ fn read_item(draft: &Draft, key: Keyword, words: Words) -> Result<Item, Fault>
 
 // What a line says after those that the draft holds, or its fault.
 pub fn read_line(draft: &Draft, line: &[u8]) -> Result<Item, Fault>
-    ensures { result ≡ line_of (said draft.now) line.now }
+    ensures { result ≡ line_of (partial_sheet_of draft.now) line.now }
 {
     if line.len() > LONGEST_LINE {
         return Err(Fault::Long);
     }
     let mut reader = Reader::new(line);
     let word = reader.key().ok_or(Fault::Key)?;
-    let key = admit(draft, forms::keyword(word).ok_or(Fault::Key)?)?;
+    let key = check_key(draft, forms::keyword(word).ok_or(Fault::Key)?)?;
     let words = cut_words(&mut reader).ok_or(Fault::Form)?;
     read_item(draft, key, words)
 }

@@ -1,9 +1,9 @@
 // Operations: the words that name them, what their operands stand for, and what is made of them.
 ghost use Rattle.std.specs.Prelude.{◌≡◌, ℕ, List, None, Some, Option};
-ghost use Rattle.lines.specs.Reading.{spelled};
-ghost use Rattle.lines.specs.Forms.{Roles, Operands, roles as given, expression_named, statement_named, expression_roles, statement_roles, expression_with, statement_with};
+ghost use Rattle.lines.specs.Lines.{word_list};
+ghost use Rattle.lines.specs.Operations.{Roles, Operands, roles as given, expression_named, statement_named, expression_roles, statement_roles, expression_with, statement_with};
 
-use crate::items::{Operands, Role, Roles, Triple, Words};
+use crate::items::{OperandSlots, Operands, Role, Roles, Words};
 use sheet::{Expression, Operator, Statement};
 
 impl Roles {
@@ -11,28 +11,28 @@ impl Roles {
     fn none() -> Roles
         ensures { result ≡ given None None None }
     {
-        Triple::new(None, None, None)
+        OperandSlots::new(None, None, None)
     }
 
     // One operand.
     fn one(first: Role) -> Roles
         ensures { result ≡ given (Some first) None None }
     {
-        Triple::new(Some(first), None, None)
+        OperandSlots::new(Some(first), None, None)
     }
 
     // Two operands.
     fn two(first: Role, second: Role) -> Roles
         ensures { result ≡ given (Some first) (Some second) None }
     {
-        Triple::new(Some(first), Some(second), None)
+        OperandSlots::new(Some(first), Some(second), None)
     }
 
     // Three operands.
     fn three(first: Role, second: Role, third: Role) -> Roles
         ensures { result ≡ given (Some first) (Some second) (Some third) }
     {
-        Triple::new(Some(first), Some(second), Some(third))
+        OperandSlots::new(Some(first), Some(second), Some(third))
     }
 }
 
@@ -47,7 +47,7 @@ pub(crate) trait Operation: Copy {
     ghost with: { Self → Operands → Self };
 
     fn named(words: Words) -> Option<Self>
-        ensures { result ≡ named (spelled words.entry) };
+        ensures { result ≡ named (word_list words.entry) };
 
     fn roles(self) -> Roles
         ensures { result ≡ roles self };

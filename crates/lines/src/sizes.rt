@@ -1,14 +1,13 @@
 // The size of an expression.
 ghost use Rattle.std.specs.Prelude.{◌≡◌, slice_index};
 ghost use Rattle.sheet.specs.Content.{variable_at};
-ghost use Rattle.sheet.specs.Sizes.{reach, size_of, size};
+ghost use Rattle.sheet.specs.Sizes.{range_size, size_of, size};
 
-use drafts::Draft;
-use sheet::{Expression, Operator};
+use sheet::{Draft, Expression, Operator};
 
 // How far from 0 the range of variable `x` reaches.
 fn reach_at(draft: &Draft, x: u16) -> u32
-    ensures { result ≡ reach (variable_at draft.now.tables.variables.items x) }
+    ensures { result ≡ range_size (variable_at draft.now.tables.variables.items x) }
 {
     draft
         .tables

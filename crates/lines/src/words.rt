@@ -1,21 +1,21 @@
 // The words of a line.
 ghost use Rattle.std.specs.Prelude.{◌≡◌, ◌≤◌, length};
-ghost use Rattle.text.specs.Cut.{left};
-ghost use Rattle.lines.specs.Reading.{spelled, Cut, word_in};
+ghost use Rattle.text.specs.Cut.{pieces_from};
+ghost use Rattle.lines.specs.Lines.{word_list, Cut, word_in};
 
-use crate::items::{Triple, Words};
+use crate::items::{OperandSlots, Words};
 use text::Reader;
 
 impl<'a> Words<'a> {
     // The words after the first; no bytes where there is none.
-    pub(crate) fn rest(self) -> Triple<&'a [u8]>
-        ensures { (result.first.now ≡ word_in (spelled self.entry) 1) × (result.second.now ≡ word_in (spelled self.entry) 2) × (result.third.now ≡ word_in (spelled self.entry) 3) }
+    pub(crate) fn rest(self) -> OperandSlots<&'a [u8]>
+        ensures { (result.first.now ≡ word_in (word_list self.entry) 1) × (result.second.now ≡ word_in (word_list self.entry) 2) × (result.third.now ≡ word_in (word_list self.entry) 3) }
     {
         match self {
-            Words::One(_) => Triple::new(b"", b"", b""),
-            Words::Two(_, a) => Triple::new(a, b"", b""),
-            Words::Three(_, a, b) => Triple::new(a, b, b""),
-            Words::Four(_, a, b, c) => Triple::new(a, b, c),
+            Words::One(_) => OperandSlots::new(b"", b"", b""),
+            Words::Two(_, a) => OperandSlots::new(a, b"", b""),
+            Words::Three(_, a, b) => OperandSlots::new(a, b, b""),
+            Words::Four(_, a, b, c) => OperandSlots::new(a, b, c),
         }
     }
 }
@@ -23,7 +23,7 @@ impl<'a> Words<'a> {
 // The words that a reader has not handed out yet, or none where they are more than four.
 pub(crate) fn cut_words<'a>(reader: &mut Reader<'a>) -> Option<Words<'a>>
     requires { reader.old.place ≤ length reader.old.text.now }
-    ensures { Cut result (left 32 reader.old.text.now reader.old.place) }
+    ensures { Cut result (pieces_from 32 reader.old.text.now reader.old.place) }
 {
     let a = reader.word()?;
     let Some(b) = reader.word() else {

@@ -1,2 +1,5 @@
+pub mod Parsing
+pub mod RefusalText
+pub mod LoadingLaws
 pub mod Loading
 pub mod Naming

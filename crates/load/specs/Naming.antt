@@ -4,23 +4,23 @@ use Rattle.std.specs.Borrow.{Bor}
 use Rattle.std.specs.List.{flat_map}
 use Rattle.text.specs.Cut.{before, parted, PartAt}
 use Rattle.sheet.specs.Content.{Content}
-use Rattle.sheet.specs.Writing.{ended, name_at, variable_line}
-use Rattle.verdict.specs.Verdict.{verdict}
-use Rattle.verdict.specs.Law.{lines_in}
+use Rattle.sheet.specs.SheetText.{with_line_end, name_of_variable, variable_line}
+use Rattle.load.specs.Parsing.{parse_sheet}
+use Rattle.load.specs.LoadingLaws.{lines_in}
 
 -- the place of the name of variable k: past the first line, the lines of the variables before it, and `var=`
 abbrev pub name_place : Content → ℕ → ℕ
-name_place c k = length (flat_map ended (codes "sheet=2" ∷ map variable_line (take k c.variables))) + 4
+name_place c k = length (flat_map with_line_end (codes "sheet=2" ∷ map variable_line (take k c.variables))) + 4
 
 -- r is the name of variable k in the sheet that the text s spells, as a part of s;
 -- none where s is refused, or its sheet has no such variable
 abbrev pub NameOf : Bor (List ℕ) → ℕ → Option (Bor (List ℕ)) → Type 0
-NameOf s k None = (c : Content) → verdict s.now ≡ Ok c → length c.variables ≤ k
-NameOf s k (Some x) = (c : Content) × (verdict s.now ≡ Ok c) × (k < length c.variables) × PartAt s x (name_place c k) (name_at c.variables k)
+NameOf s k None = (c : Content) → parse_sheet s.now ≡ Ok c → length c.variables ≤ k
+NameOf s k (Some x) = (c : Content) × (parse_sheet s.now ≡ Ok c) × (k < length c.variables) × PartAt s x (name_place c k) (name_of_variable c.variables k)
 
 -- how many bytes stand before line k of the lines ws, counted from 0
 abbrev pub start_of : List (List ℕ) → ℕ → ℕ
-start_of ws k = length (flat_map ended (take k ws))
+start_of ws k = length (flat_map with_line_end (take k ws))
 
 -- r is line k of the text s, counted from 0; line ends part the lines
 abbrev pub LineAt : Bor (List ℕ) → ℕ → Option (Bor (List ℕ)) → Type 0

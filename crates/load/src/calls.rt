@@ -1,23 +1,23 @@
 // The calls on a loader.
 ghost use Rattle.std.specs.Prelude.{◌≡◌, IfOk};
-ghost use Rattle.sheet.specs.Held.{first};
-ghost use Rattle.verdict.specs.Verdict.{verdict};
-ghost use Rattle.verdict.specs.Law.{AcceptsTheSheets, TellsTheFirstFault};
-ghost use Rattle.load.specs.Loading.{sheet_in, Loads};
+ghost use Rattle.sheet.specs.Tables.{first_sheet};
+ghost use Rattle.load.specs.Parsing.{parse_sheet};
+ghost use Rattle.load.specs.LoadingLaws.{AcceptsTheSheets, TellsTheFirstFault};
+ghost use Rattle.load.specs.Loading.{LoaderLoads};
+ghost use Rattle.sheet.specs.ContentOf.{content_of};
 ghost use Rattle.load.specs.Naming.{NameOf};
 
 use crate::loading::Loader;
 use crate::names::name_at;
 use crate::reading::read_text;
-use drafts::Draft;
-use sheet::Sheet;
+use crate::refusals::Refusal;
+use sheet::{Draft, Sheet};
 use std::alloc::{AllocError, Global};
-use verdict::Refusal;
 
 impl Loader {
     // A loader that holds the sheet `var=a 0 0`, `stmt=empty`, `run=0`. Nothing allocates after this.
     pub fn new(heap: Global) -> Result<Loader, AllocError>
-        ensures { IfOk result (λ l. sheet_in l.sheet ≡ first) }
+        ensures { IfOk result (λ l. content_of l.sheet ≡ first_sheet) }
     {
         let sheet = Sheet::new(heap)?;
         let draft = Draft::new(heap)?;
@@ -26,7 +26,7 @@ impl Loader {
 
     // Loads the sheet that a text spells, or refuses the text and keeps the sheet that is held.
     pub fn load(&mut self, text: &[u8]) -> Result<(), Refusal>
-        ensures outcome { Loads result (sheet_in self.old.sheet) (sheet_in self.new.sheet) (verdict text.now) }
+        ensures outcome { LoaderLoads result (content_of self.old.sheet) (content_of self.new.sheet) (parse_sheet text.now) }
         ensures accepts { AcceptsTheSheets }
         ensures refuses { TellsTheFirstFault }
     {

@@ -1,12 +1,14 @@
-// Loads sheets from their texts.
+// Loads sheets from their texts: the sheet that a text spells, or why it is refused; and the laws that this keeps.
 #![tactic(auto)]
 
 mod calls;
 mod loading;
 mod names;
 mod reading;
+mod refusal_text;
+mod refusals;
 
 pub use crate::loading::Loader;
 pub use crate::reading::{ENOUGH, LONGEST_TEXT};
+pub use crate::refusals::Refusal;
 pub use sheet::Sheet;
-pub use verdict::Refusal;

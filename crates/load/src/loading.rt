@@ -1,6 +1,5 @@
 // A sheet, and the memory to load another.
-use drafts::Draft;
-use sheet::Sheet;
+use sheet::{Draft, Sheet};
 
 // Holds a sheet, and a draft that a text is read into. All memory is reserved when it is made.
 #[derive(Drop)]

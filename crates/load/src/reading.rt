@@ -1,13 +1,13 @@
 // Reads a whole text into a draft.
-ghost use Rattle.text.specs.Cut.{left};
-ghost use Rattle.drafts.specs.Said.{said, nothing};
-ghost use Rattle.verdict.specs.Verdict.{lines_of, verdict};
+ghost use Rattle.text.specs.Cut.{pieces_from};
+ghost use Rattle.sheet.specs.PartialSheet.{partial_sheet_of, no_lines};
+ghost use Rattle.load.specs.Parsing.{parse_lines, parse_sheet};
 ghost use Rattle.load.specs.Loading.{Drafted};
 ghost use Rattle.std.specs.Prelude.{◌≡◌, ◌+◌, ◌≤◌, length};
 
-use drafts::Draft;
+use crate::refusals::Refusal;
+use sheet::Draft;
 use text::Reader;
-use verdict::Refusal;
 
 // The longest text, in bytes.
 pub const LONGEST_TEXT: usize = 16_384;
@@ -19,8 +19,8 @@ pub const ENOUGH: u64 = LONGEST_TEXT as u64 + 1;
 fn read_lines(draft: &mut Draft, reader: &mut Reader) -> Result<u16, Refusal>
     requires short { length reader.old.text.now ≤ 16384 }
     requires place { reader.old.place ≤ length reader.old.text.now + 1 }
-    requires empty { said draft.old ≡ nothing }
-    ensures { Drafted result draft.new (lines_of 2 nothing (left 10 reader.old.text.now reader.old.place)) }
+    requires empty { partial_sheet_of draft.old ≡ no_lines }
+    ensures { Drafted result draft.new (parse_lines 2 no_lines (pieces_from 10 reader.old.text.now reader.old.place)) }
 {
     // Counted by hand, since lines are handed out one by one, and the count is needed after the last.
     let mut n = 2u32;
@@ -34,7 +34,7 @@ fn read_lines(draft: &mut Draft, reader: &mut Reader) -> Result<u16, Refusal>
 
 // Reads a text. The draft then holds the sheet that the text spells, and its run number is answered; or the text is refused.
 pub(crate) fn read_text(draft: &mut Draft, text: &[u8]) -> Result<u16, Refusal>
-    ensures { Drafted result draft.new (verdict text.now) }
+    ensures { Drafted result draft.new (parse_sheet text.now) }
 {
     if text.len() > LONGEST_TEXT {
         return Err(Refusal::Length);

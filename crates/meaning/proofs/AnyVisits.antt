@@ -2,23 +2,23 @@
 use Rattle.std.proofs.Common.{◌≡◌, ℕ, zero, suc, ◌+◌, ◌<◌, ◌≤◌, Bool, true, false, List, [], ◌∷◌, length, Some, None, Option, sym, refl, ap, ◌∙◌, subst, arith}
 use Rattle.std.specs.List.{slice_get}
 use Rattle.sheet.specs.Limits.{Limits}
-use Rattle.meaning.specs.declared.parts.Duty.{Duty}
-use Rattle.meaning.specs.declared.parts.Span.{Span}
-use Rattle.meaning.specs.declared.parts.Stop.{Stop}
+use Rattle.meaning.specs.declared.duties.Duty.{Duty}
+use Rattle.meaning.specs.declared.duties.Span.{Span}
+use Rattle.meaning.specs.declared.duties.Stop.{Stop}
 use Rattle.meaning.specs.Intervals.{Setting, width, statement_at}
 use Rattle.meaning.specs.Work.{Work, Outcome, stops, goes, unchanged, also, and_then}
 use Rattle.meaning.specs.Effects.{most_duties}
 use Rattle.meaning.specs.Passes.{visit_or, visit_duties, visit_spans, pass_fuel, pass, Settles, rests, breaks, again}
 use Rattle.meaning.specs.Visiting.{OneVisit, to_duty, to_span, Visits, no_visit, one_visit_more, SettlesInAnyOrder, comes_to_rest, meets_stop}
 use Rattle.meaning.specs.Laws.{Roomy}
-use Rattle.meaning.specs.Order.{◌∈◌, here, there, Tidy}
+use Rattle.meaning.specs.WellFormed.{◌∈◌, here, there, WellFormed}
 use Rattle.meaning.proofs.Lists.{nth_in, nth_within}
-use Rattle.meaning.proofs.Known.{statement_with_ok}
+use Rattle.meaning.proofs.KnownNumbers.{statement_with_ok}
 use Rattle.meaning.proofs.Rest.{Rest, rule_rests, opened_rests, pass_rests}
-use Rattle.meaning.proofs.Fall.{left}
-use Rattle.meaning.proofs.Moves.{Grows, grows_refl, grows_trans, Moves, Any}
-use Rattle.meaning.proofs.Grown.{Resting, rule_moves, opened_moves, grown_of}
-use Rattle.meaning.proofs.Kept.{kept_visits}
+use Rattle.meaning.proofs.Measure.{left}
+use Rattle.meaning.proofs.FiveChanges.{Grows, grows_refl, grows_trans, Moves, Any}
+use Rattle.meaning.proofs.StaysWellFormed.{Resting, rule_moves, opened_moves, grown_of}
+use Rattle.meaning.proofs.VisitsKeep.{kept_visits}
 use Rattle.meaning.proofs.Fuel.{roomy_kept, fuel_is}
 
 -- visits lead to an outcome
@@ -71,33 +71,33 @@ visit_same {S} {k} {u} {v} (to_duty d q e) = sym (rule_rests S k d u (statement_
 visit_same {u = u} {v = v} (to_span t q e) = sym (opened_rests u t.serial t.opening v e).0
 
 module _ (S : Setting) (L : Limits S.sheet) where
-  one_visit_moves : {k : ℕ} {w : Work} {o : Outcome} → Tidy S w → OneVisit S k w o → Moves S w Any o
+  one_visit_moves : {k : ℕ} {w : Work} {o : Outcome} → WellFormed S w → OneVisit S k w o → Moves S w Any o
   one_visit_moves {k} {w} t (to_duty d q e) =
       subst (λ z. Moves S w Any z) e (rule_moves k (length S.sheet.expressions) d.statement d w (statement_at S d.statement) d.number (statement_with_ok S L d.statement) t (t.duty_lives d q))
   one_visit_moves {k} {w} t (to_span r q e) = subst (λ z. Moves S w Any z) e (opened_moves r.opening r.serial w t (record { span = r; inside = q; named = refl }) (t.nested r q))
 
-  pub visits_move : {k : ℕ} {w u : Work} → Tidy S w → Visits S k w u → Grows w u × Tidy S u
+  pub visits_move : {k : ℕ} {w u : Work} → WellFormed S w → Visits S k w u → Grows w u × WellFormed S u
   visits_move {w = w} t no_visit = (grows_refl w, t)
   visits_move t (one_visit_more a v) = let r = visits_move t a in let m = grown_of S L (one_visit_moves r.1 v) in (grows_trans r.0 m.0, m.1)
 
   -- a visit that changes something lowers the measure
-  pub visit_falls : {k : ℕ} {u v : Work} → Tidy S u → OneVisit S k u (goes v true) → left (width S) v < left (width S) u
+  pub visit_falls : {k : ℕ} {u v : Work} → WellFormed S u → OneVisit S k u (goes v true) → left (width S) v < left (width S) u
   visit_falls t v = (grown_of S L (one_visit_moves t v)).2.lt refl
 
   -- a work that visits bring to rest is settled
-  pub any_order_rests : {k : ℕ} {w u : Work} → Tidy S w → SettlesInAnyOrder S k w (goes u false) → Resting S k w u
-  any_order_rests {k} {w} {u} t (comes_to_rest a e) = let m = visits_move t a in record { grown = m.0; tidy = m.1; rest = (pass_rests S k u u e).1 }
+  pub any_order_rests : {k : ℕ} {w u : Work} → WellFormed S w → SettlesInAnyOrder S k w (goes u false) → Resting S k w u
+  any_order_rests {k} {w} {u} t (comes_to_rest a e) = let m = visits_move t a in record { grown = m.0; well_formed = m.1; rest = (pass_rests S k u u e).1 }
 
-  leads_spans : {k : ℕ} (l : List Span) (w : Work) → ((t : Span) → t ∈ l → t ∈ w.spans) → Tidy S w → Leads S k w (visit_spans l w)
+  leads_spans : {k : ℕ} (l : List Span) (w : Work) → ((t : Span) → t ∈ l → t ∈ w.spans) → WellFormed S w → Leads S k w (visit_spans l w)
   leads_spans [] w i t = leads_on no_visit
   leads_spans (x ∷ l) w i t =
       leads_then (visit_spans l) (leads_visit _ (to_span x (i x (here refl)) refl)) (λ u a. let m = visits_move t a in leads_spans l u (λ r q. m.0.more_spans r (i r (there q))) m.1)
 
-  leads_pass : {k : ℕ} (w : Work) → Tidy S w → Roomy w → Leads S k w (pass S k w)
+  leads_pass : {k : ℕ} (w : Work) → WellFormed S w → Roomy w → Leads S k w (pass S k w)
   leads_pass w t h = leads_then (λ u. visit_spans u.spans u) (leads_duties pass_fuel 0 w (omega arith) fuel_is h) (λ u a. leads_spans u.spans u (λ r q. q) (visits_move t a).1)
 
   -- what passes come to, visits in some order come to
-  pub passes_any_order : {k : ℕ} {w : Work} {o : Outcome} → Tidy S w → Roomy w → Settles S k w o → SettlesInAnyOrder S k w o
+  pub passes_any_order : {k : ℕ} {w : Work} {o : Outcome} → WellFormed S w → Roomy w → Settles S k w o → SettlesInAnyOrder S k w o
   passes_any_order {k} {w} t h (rests {u = u} e) =
       let r : (w ≡ u) × Rest S k w = pass_rests S k w u e in
       subst (λ z. SettlesInAnyOrder S k w (goes z false)) r.0 (comes_to_rest no_visit (e ∙ ap unchanged (sym r.0)))

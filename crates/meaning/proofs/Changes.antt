@@ -1,16 +1,16 @@
 -- A fact of works that each of the five changes keeps, wherever a visit makes it, each visit keeps.
 use Rattle.std.proofs.Common.{◌≡◌, ℕ, ◌<◌, Bool, true, false, ◌&&◌, ltb, length, ℤ, Some, None, Option, refl}
 use Rattle.std.proofs.lemmas.Bool.{ltb-true, and_parts, cond_both}
-use Rattle.value.specs.declared.parts.End.{End}
-use Rattle.value.specs.declared.parts.End.TheVariants.{Unknown, On, Last}
-use Rattle.value.specs.Values.{same}
-use Rattle.meaning.specs.declared.parts.Duty.{Duty}
-use Rattle.meaning.specs.declared.parts.Opening.{Opening}
-use Rattle.meaning.specs.declared.parts.Stop.TheVariants.{Contradiction}
-use Rattle.meaning.specs.Intervals.{Setting, fits}
+use Rattle.value.specs.declared.end.End.{End}
+use Rattle.value.specs.declared.end.End.TheVariants.{Unknown, On, Last}
+use Rattle.value.specs.Values.{equal_numbers}
+use Rattle.meaning.specs.declared.duties.Duty.{Duty}
+use Rattle.meaning.specs.declared.duties.Opening.{Opening}
+use Rattle.meaning.specs.declared.duties.Stop.TheVariants.{Contradiction}
+use Rattle.meaning.specs.Intervals.{Setting, value_fits}
 use Rattle.meaning.specs.Work.{Work, stops, unchanged, changed, has_duty, has_opened}
 use Rattle.meaning.specs.Effects.{most_duties, most_spans, with_value, with_end, with_duty, with_later, with_span, if_room, give_by, put_by}
-use Rattle.meaning.proofs.Kept.{OfWork, Kept}
+use Rattle.meaning.proofs.VisitsKeep.{OfWork, Kept}
 
 -- a fact that the changes keep
 pub record Changes (S : Setting) (P : Work → Type 0) : Type 0 where
@@ -22,8 +22,8 @@ pub record Changes (S : Setting) (P : Work → Type 0) : Type 0 where
 
 module _ {S : Setting} {P : Work → Type 0} (C : Changes S P) where
   given : (p : ℕ) (q : Option ℤ) (x : ℕ) (v : ℤ) (w : Work) → w.known x ≡ q → P w → OfWork P (give_by S p q x v w)
-  given p None x v w n h = cond_both (fits S x v) (changed (with_value x v w)) (stops (Contradiction p)) (OfWork P) (λ _. C.value x v w n h) (λ _. tt)
-  given p (Some u) x v w n h = cond_both (same u v) (unchanged w) (stops (Contradiction p)) (OfWork P) (λ _. h) (λ _. tt)
+  given p None x v w n h = cond_both (value_fits S x v) (changed (with_value x v w)) (stops (Contradiction p)) (OfWork P) (λ _. C.value x v w n h) (λ _. tt)
+  given p (Some u) x v w n h = cond_both (equal_numbers u v) (unchanged w) (stops (Contradiction p)) (OfWork P) (λ _. h) (λ _. tt)
 
   placed : (p : ℕ) (c e : End) (s : ℕ) (w : Work) → w.ends s ≡ c → P w → OfWork P (put_by p c e s w)
   placed p Unknown Unknown s w n h = h

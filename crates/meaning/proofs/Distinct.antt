@@ -4,9 +4,9 @@ use Rattle.std.proofs.Common.{◌≡◌, suc, ◌≤◌, true, false, List, [], 
 use Rattle.std.specs.Prelude.{IsPermutation}
 use Rattle.std.proofs.lemmas.List.Sorted.{IsPermutation-refl, IsPermutation-sym, IsPermutation-trans, IsPermutation-cons, IsPermutation-middle}
 use Rattle.std.proofs.lemmas.Bool.{both_ways, or_left, or_right}
-use Rattle.meaning.specs.declared.parts.Duty.{Duty}
+use Rattle.meaning.specs.declared.duties.Duty.{Duty}
 use Rattle.meaning.specs.Work.{same_duty, has_duty}
-use Rattle.meaning.specs.Order.{◌∈◌, here, there}
+use Rattle.meaning.specs.WellFormed.{◌∈◌, here, there}
 use Rattle.meaning.proofs.Tests.{duty_itself}
 use Rattle.meaning.proofs.PartOf.{Distinct}
 

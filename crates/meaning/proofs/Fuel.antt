@@ -1,21 +1,21 @@
 -- The lists keep within their limits, and so the fuel of a pass never runs out.
 use Rattle.std.proofs.Common.{◌≡◌, ℕ, zero, suc, ◌+◌, ◌<◌, ◌≤◌, false, List, [], ◌∷◌, ◌++◌, length, ℤ, Some, None, Option, refl, ap, ◌∙◌, subst, arith}
 use Rattle.std.specs.List.{slice_get}
-use Rattle.value.specs.declared.parts.End.{End}
-use Rattle.value.specs.declared.parts.End.TheVariants.{Unknown, On, Last}
-use Rattle.meaning.specs.declared.parts.Duty.{Duty}
-use Rattle.meaning.specs.declared.parts.Span.{Span}
+use Rattle.value.specs.declared.end.End.{End}
+use Rattle.value.specs.declared.end.End.TheVariants.{Unknown, On, Last}
+use Rattle.meaning.specs.declared.duties.Duty.{Duty}
+use Rattle.meaning.specs.declared.duties.Span.{Span}
 use Rattle.meaning.specs.Intervals.{Setting}
 use Rattle.meaning.specs.Work.{Work, Outcome, stops, goes, also, and_then}
 use Rattle.meaning.specs.Effects.{most_duties, most_spans}
 use Rattle.meaning.specs.Rules.{visit}
 use Rattle.meaning.specs.Passes.{visit_or, visit_duties, visit_duties_else, pass_fuel}
 use Rattle.meaning.specs.Visiting.{in_passes}
-use Rattle.meaning.specs.Runs.{kept_by, going_on, next_work, recorded, Open, start, onward}
+use Rattle.meaning.specs.Runs.{kept_by, going_on, next_work, recorded, Ongoing, start, onward}
 use Rattle.meaning.specs.Laws.{Roomy, FuelSuffices}
 use Rattle.meaning.proofs.Lists.{longer, nth_within}
-use Rattle.meaning.proofs.Steady.{Steady, steady}
-use Rattle.meaning.proofs.Kept.{OfWork, Kept, kept_visit, kept_pass, kept_settles}
+use Rattle.meaning.proofs.SettledStates.{Steady, steady}
+use Rattle.meaning.proofs.VisitsKeep.{OfWork, Kept, kept_visit, kept_pass, kept_settles}
 use Rattle.meaning.proofs.Changes.{kept_by_changes}
 
 one_more : {A : Type 0} (l : List A) (x : A) (n : ℕ) → length l < n → length (l ++ (x ∷ [])) ≤ n
@@ -43,7 +43,7 @@ pub next_roomy : (w : Work) → Roomy w → Roomy (next_work w)
 next_roomy w h = record { duties = h.later; later = omega arith; spans = omega (arith, going_few w.ends w.spans, h.spans) }
 
 -- each state of a run starts within the limits
-open_roomy : {S : Setting} {r : List (List ℤ)} {w : Work} → Open S r w → Roomy w
+open_roomy : {S : Setting} {r : List (List ℤ)} {w : Work} → Ongoing S r w → Roomy w
 open_roomy start = record { duties = omega arith; later = omega arith; spans = omega arith }
 open_roomy {S} (onward {r = r} {w = w} {u = u} {x = x} o q) =
     let T : Steady in_passes S (length r) w (recorded x u) = steady in_passes S (length r) w (recorded x u) q (λ h. h) in

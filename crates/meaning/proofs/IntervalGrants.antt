@@ -1,18 +1,18 @@
 -- What an interval grants at state k, where places are the states in which spans end; and that it is closed under the rules.
 use Rattle.std.proofs.Common.{◌≡◌, ℕ, zero, suc, ◌+◌, ◌<◌, ◌≤◌, true, ◌≢◌, ℤ, pos, Some, None, Option, inl, sym, refl, ◌∙◌, subst, arith}
 use native.Mathlib.Decide.{ℕ_discrete}
-use Rattle.sheet.specs.declared.parts.Statement.{Statement}
-use Rattle.sheet.specs.declared.parts.Statement.TheVariants.{Len, For}
+use Rattle.sheet.specs.declared.elements.Statement.{Statement}
+use Rattle.sheet.specs.declared.elements.Statement.TheVariants.{Len, For}
 use Rattle.sheet.specs.Limits.{Limits}
-use Rattle.value.specs.declared.parts.End.TheVariants.{On, Last}
-use Rattle.value.proofs.Numbers.{Agrees}
-use Rattle.meaning.specs.declared.parts.Duty.{Duty}
-use Rattle.meaning.specs.declared.parts.Opening.{Opening}
-use Rattle.meaning.specs.Intervals.{Setting, statement_at, fits}
+use Rattle.value.specs.declared.end.End.TheVariants.{On, Last}
+use Rattle.value.proofs.Numbers.{MatchesNumber}
+use Rattle.meaning.specs.declared.duties.Duty.{Duty}
+use Rattle.meaning.specs.declared.duties.Opening.{Opening}
+use Rattle.meaning.specs.Intervals.{Setting, statement_at, value_fits}
 use Rattle.meaning.specs.Holds.{number_on}
 use Rattle.meaning.proofs.Tests.{truth_yes, truth_no}
-use Rattle.meaning.proofs.Owed.{Owed, true_owed, empty_owed, more_owed, is_owed, and_owed, then_owed, else_owed, next_owed, always_owed, halt_owed, len_owed, len_left, gets_owed, gets_value, chop_owed, for_owed, for_below, for_done, for_round, while_done, while_round, request_owed, Due, due_as, due_self}
-use Rattle.meaning.proofs.Known.{EndSays, known_is}
+use Rattle.meaning.proofs.Owing.{Owed, true_owed, empty_owed, more_owed, is_owed, and_owed, then_owed, else_owed, next_owed, always_owed, halt_owed, len_owed, len_left, gets_owed, gets_value, chop_owed, for_owed, for_below, for_done, for_round, while_done, while_round, request_owed, Due, due_as, due_self}
+use Rattle.meaning.proofs.KnownNumbers.{EndSays, known_is}
 use Rattle.meaning.proofs.Grants.{Grants, Shown, LenAsks, SpanAsks, Asks, Lawful}
 
 -- what holds of what follows a span that ends at state s
@@ -34,7 +34,7 @@ holding S σ k = record {
 }
 
 -- what is not at odds with a number agrees with it
-agree_of : (q : Option ℤ) (r : ℤ) → ((z : ℤ) → q ≡ Some z → r ≡ z) → Agrees q r
+agree_of : (q : Option ℤ) (r : ℤ) → ((z : ℤ) → q ≡ Some z → r ≡ z) → MatchesNumber q r
 agree_of None r h = tt
 agree_of (Some v) r h = sym (h v refl)
 
@@ -91,12 +91,12 @@ module _ (S : Setting) (L : Limits S.sheet) (σ : ℕ → ℕ → ℤ) (k : ℕ)
       ((λ i. omega (arith, h.1)), (λ i. (omega (arith, h.0, h.1), subst (λ z. Due S σ z g.follower.span g.follower) i h.2)), (λ i. omega (arith, h.0, h.1)))
 
   -- so what an interval grants is closed under the rules
-  pub holding_lawful : ((x : ℕ) → fits S x (σ k x) ≡ true) → Lawful S k (holding S σ k)
+  pub holding_lawful : ((x : ℕ) → value_fits S x (σ k x) ≡ true) → Lawful S k (holding S σ k)
   holding_lawful ranged = record {
     unknown = λ j. tt;
     one_end = λ j a b. absurd (omega arith);
     one_value = λ x a b p q. inl (sym p ∙ q);
-    fitting = λ x v e. inl (subst (λ (z : ℤ). fits S x z ≡ true) e (ranged x));
+    fitting = λ x v e. inl (subst (λ (z : ℤ). value_fits S x z ≡ true) e (ranged x));
     of_duty = λ d q. asks_owed d (statement_at S d.statement) d.number refl refl q.0 q.1;
     of_span = λ s g f q. span_asks s g q;
     value_extra = λ n φ w x v e. tt;

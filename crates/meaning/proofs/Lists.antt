@@ -3,7 +3,7 @@ use Rattle.std.proofs.Common.{◌≡◌, ℕ, zero, suc, ◌<◌, ◌≤◌, eqb
 use Rattle.std.specs.List.{slice_get}
 use Rattle.std.proofs.lemmas.Bool.{eqb-true, eq-eqb, ne_eqb, cond_both, cond-true, cond-false}
 use Rattle.meaning.specs.Work.{set_at}
-use Rattle.meaning.specs.Order.{◌∈◌, here, there}
+use Rattle.meaning.specs.WellFormed.{◌∈◌, here, there}
 
 -- what is in a list is in a longer one
 pub ∈_left : {A : Type 0} {d : A} {l : List A} (x : A) → d ∈ l → d ∈ (l ++ (x ∷ []))

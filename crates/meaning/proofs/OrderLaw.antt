@@ -3,24 +3,24 @@ use Rattle.std.proofs.Common.{◌≡◌, ℕ, ◌<◌, false, List, [], ◌∷�
 use Rattle.sheet.specs.Content.{Content}
 use Rattle.sheet.specs.Limits.{Limits}
 use Rattle.feed.specs.Readings.{SameReadings}
-use Rattle.value.specs.declared.parts.End.{End}
-use Rattle.value.specs.declared.parts.End.TheVariants.{Unknown, On, Last}
-use Rattle.meaning.specs.declared.parts.Duty.{Duty}
-use Rattle.meaning.specs.declared.parts.LeftOpen.{LeftOpen}
-use Rattle.meaning.specs.declared.parts.Span.{Span}
-use Rattle.meaning.specs.declared.parts.Stop.{Stop}
-use Rattle.meaning.specs.declared.parts.Stop.TheVariants.{Undetermined}
+use Rattle.value.specs.declared.end.End.{End}
+use Rattle.value.specs.declared.end.End.TheVariants.{Unknown, On, Last}
+use Rattle.meaning.specs.declared.duties.Duty.{Duty}
+use Rattle.meaning.specs.declared.duties.LeftOpen.{LeftOpen}
+use Rattle.meaning.specs.declared.duties.Span.{Span}
+use Rattle.meaning.specs.declared.duties.Stop.{Stop}
+use Rattle.meaning.specs.declared.duties.Stop.TheVariants.{Undetermined}
 use Rattle.meaning.specs.Intervals.{Setting, under, width}
 use Rattle.meaning.specs.Work.{Work, Outcome, stops, goes, plain}
 use Rattle.meaning.specs.Visiting.{SettlesInAnyOrder, comes_to_rest, meets_stop, in_any_order}
-use Rattle.meaning.specs.Runs.{whole_span, first_work, left_open, state_of, next_work, Step, stopped, recorded, finished, closed_by, judged_by, step_of, StepsBy, OpenBy, start, onward}
+use Rattle.meaning.specs.Runs.{whole_span, first_work, left_open, state_of, next_work, Step, stopped, recorded, finished, closed_by, judged_by, step_of, StepsBy, OngoingBy, start, onward}
 use Rattle.meaning.specs.Laws.{Roomy}
-use Rattle.meaning.specs.Order.{◌∈◌, here, there}
+use Rattle.meaning.specs.WellFormed.{◌∈◌, here, there}
 use Rattle.meaning.specs.AnyOrder.{duty_renamed, span_renamed, Broken, SameOutcome, both_rest, neither_rests}
 use Rattle.meaning.proofs.Lists.{longer}
-use Rattle.meaning.proofs.Kept.{kept_any_order}
+use Rattle.meaning.proofs.VisitsKeep.{kept_any_order}
 use Rattle.meaning.proofs.Fuel.{roomy_kept}
-use Rattle.meaning.proofs.PartOf.{Part, AsksAlike, KnowsAsMuch, Distinct, Like, Within, within}
+use Rattle.meaning.proofs.PartOf.{PartOfWork, AsksAlike, KnowsAsMuch, Distinct, Like, Within, within}
 use Rattle.meaning.proofs.RestGrants.{same_knows}
 use Rattle.meaning.proofs.PartStays.{part_stays}
 use Rattle.meaning.proofs.Starts.{Start, settled_from, first_start}
@@ -33,7 +33,7 @@ use Rattle.meaning.proofs.SameRests.{Paired, paired_back, Mutual, whole_same, op
 record Lying (n : ℕ) (φ : ℕ → ℕ) (u w : Work) : Type 0 where
   names : ℕ → ℕ
   same : (s : ℕ) → s < n → names s ≡ φ s
-  part : Part names w u
+  part : PartOfWork names w u
   distinct : Distinct w.duties
 
 lying : {n : ℕ} {φ : ℕ → ℕ} {u w : Work} → Within n φ u (goes w false) → Lying n φ u w
@@ -181,7 +181,7 @@ module _ (c : Content) (L : Limits c) (f g : ℕ → ℕ → Option ℤ) (R : Sa
   pub steps_at : {a b : Work} {s t : Step} (k j : ℕ) → k ≡ j → Paired S T a b → StepsBy in_any_order S k a s → StepsBy in_any_order T j b t → MeetSteps S T s t
   steps_at {b = b} k j e P x y = subst₂ (MeetSteps S T) x.comes y.comes (meet_steps (width S) (meet_at k P x.settles (subst (λ i. SettlesInAnyOrder T i b y.outcome) (sym e) y.settles)))
 
-  pub together : {q r : List (List ℤ)} {w v : Work} → OpenBy in_any_order S q w → OpenBy in_any_order T r v → length q ≡ length r → Together S T q r w v
+  pub together : {q r : List (List ℤ)} {w v : Work} → OngoingBy in_any_order S q w → OngoingBy in_any_order T r v → length q ≡ length r → Together S T q r w v
   together start start h =
       record { equal = refl; paired = record { one = first_start c.run; other = first_start c.run; twins = record { φ = λ s. s; ψ = λ s. s; there = first_like c.run; back = first_like c.run }; next = refl } }
   together start (onward {r = r} {x = y} b t) h = absurd (omega (arith, longer r y))

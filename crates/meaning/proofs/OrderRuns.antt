@@ -5,16 +5,16 @@ use Rattle.std.proofs.lemmas.Bool.{cases_lt}
 use Rattle.sheet.specs.Content.{Content}
 use Rattle.sheet.specs.Limits.{Limits}
 use Rattle.feed.specs.Readings.{SameReadings}
-use Rattle.meaning.specs.declared.parts.Stop.{Stop}
+use Rattle.meaning.specs.declared.duties.Stop.{Stop}
 use Rattle.meaning.specs.Intervals.{Setting, under, width}
 use Rattle.meaning.specs.Work.{Work, Outcome}
 use Rattle.meaning.specs.Passes.{Settles}
 use Rattle.meaning.specs.Visiting.{SettlesInAnyOrder, Visiting, in_passes, in_any_order, SettlesBy}
-use Rattle.meaning.specs.Runs.{first_work, step_of, Step, stopped, recorded, finished, StepsBy, OpenBy, start, onward, FinishedBy, finish, stop, RecordBy, open_record, finished_record}
+use Rattle.meaning.specs.Runs.{first_work, step_of, Step, stopped, recorded, finished, StepsBy, OngoingBy, start, onward, FinishedBy, finish, stop, RecordBy, open_record, finished_record}
 use Rattle.meaning.specs.AnyOrder.{EndedBy, has_finished, has_stopped, SameVerdict, both_finished, both_undetermined, both_broken, OrdersEnd, StatesAgree, RunsAgree, OrderMakesNoDifference}
 use Rattle.meaning.proofs.Lists.{longer}
-use Rattle.meaning.proofs.Fall.{left}
-use Rattle.meaning.proofs.Grown.{settles_total}
+use Rattle.meaning.proofs.Measure.{left}
+use Rattle.meaning.proofs.StaysWellFormed.{settles_total}
 use Rattle.meaning.proofs.AnyVisits.{visits_move, visit_same, visit_falls}
 use Rattle.meaning.proofs.Starts.{Start}
 use Rattle.meaning.proofs.AnyRuns.{start_of, settles_any, steps_any, open_any, finished_any, stopped_any, comes_to_an_end}
@@ -31,13 +31,13 @@ ended_any L i (has_stopped h) = has_stopped (stopped_any L i h)
 record Earlier (S : Setting) (n : ℕ) : Type 0 where
   so_far : List (List ℤ)
   work : Work
-  run : OpenBy in_any_order S so_far work
+  run : OngoingBy in_any_order S so_far work
   counted : length so_far ≡ n
   state : List ℤ
   after : Work
   step : StepsBy in_any_order S (length so_far) work (recorded state after)
 
-earlier : {S : Setting} {r : List (List ℤ)} {w : Work} (n : ℕ) → OpenBy in_any_order S r w → n < length r → Earlier S n
+earlier : {S : Setting} {r : List (List ℤ)} {w : Work} (n : ℕ) → OngoingBy in_any_order S r w → n < length r → Earlier S n
 earlier n start l = absurd (omega arith)
 earlier {S} n (onward {r = r} {w = w} {u = u} {x = x} o s) l = by (ℕ_discrete (length r) n) (earlier n o)
   where
@@ -54,7 +54,7 @@ data Closes (q : List (List ℤ)) : Step → List (List ℤ) → Option Stop →
 record LastStep (S : Setting) (r : List (List ℤ)) (x : Option Stop) : Type 0 where
   before : List (List ℤ)
   work : Work
-  run : OpenBy in_any_order S before work
+  run : OngoingBy in_any_order S before work
   step : Step
   steps : StepsBy in_any_order S (length before) work step
   closes : Closes before step r x
@@ -88,7 +88,7 @@ closed_alike e by_stop by_stop (meet_broken a b) = record { equal = e; verdict =
 
 module _ (c : Content) (L : Limits c) (f g : ℕ → ℕ → Option ℤ) (R : SameReadings f g) where
   -- the one does not go on beyond the last step of the other
-  goes_no_further : {q r : List (List ℤ)} {x : Option Stop} {w : Work} (e : LastStep (under c f) q x) → OpenBy in_any_order (under c g) r w → length e.before < length r → ⊥
+  goes_no_further : {q r : List (List ℤ)} {x : Option Stop} {w : Work} (e : LastStep (under c f) q x) → OngoingBy in_any_order (under c g) r w → length e.before < length r → ⊥
   goes_no_further e o l =
       let h : Earlier (under c g) (length e.before) = earlier (length e.before) o l in
       let m : Together (under c f) (under c g) e.before h.so_far e.work h.work = together c L f g R e.run h.run (sym h.counted) in
@@ -114,12 +114,12 @@ module _ (c : Content) (L : Limits c) (f g : ℕ → ℕ → Option ℤ) (R : Sa
       by (no e) = absurd (apart e)
 
   -- no order leads beyond the state at which one has ended
-  no_longer : {q r : List (List ℤ)} {x : Option Stop} {w : Work} → LastStep (under c f) q x → OpenBy in_any_order (under c g) r w → length r ≤ length q
+  no_longer : {q r : List (List ℤ)} {x : Option Stop} {w : Work} → LastStep (under c f) q x → OngoingBy in_any_order (under c g) r w → length r ≤ length q
   no_longer {q} {r} e o =
       ⊎_elim (λ (l : length e.before < length r). absurd (goes_no_further c L f g R e o l)) (λ (l : length r ≤ length e.before). omega (arith, l, not_longer e.closes)) (cases_lt (length e.before) (length r))
 
   -- and a run that goes on has fewer states than one that has finished
-  open_below : {q r : List (List ℤ)} {w : Work} → FinishedBy in_any_order (under c f) q → OpenBy in_any_order (under c g) r w → length r < length q
+  open_below : {q r : List (List ℤ)} {w : Work} → FinishedBy in_any_order (under c f) q → OngoingBy in_any_order (under c g) r w → length r < length q
   open_below {r = r} (finish {r = q} {x = x} a s) o =
       let e : LastStep (under c f) (q ++ (x ∷ [])) None = record { before = q; work = _; run = a; step = _; steps = s; closes = by_finish } in
       ⊎_elim (λ (l : length q < length r). absurd (goes_no_further c L f g R e o l)) (λ (l : length r ≤ length q). omega (arith, l, longer q x)) (cases_lt (length q) (length r))
@@ -144,8 +144,8 @@ stopped_too meet_undetermined = (_, refl, both_undetermined)
 stopped_too (meet_broken {q = q} a b) = (q, refl, both_broken a b)
 
 settles_by : {S : Setting} → Limits S.sheet → (j : Visiting) (k : ℕ) {w : Work} → Start S w → (o : Outcome) × SettlesBy j S k w o
-settles_by {S} L in_passes k {w} A = settles_total S L k w A.tidy
-settles_by {S} L in_any_order k {w} A = let s : (o : Outcome) × Settles S k w o = settles_total S L k w A.tidy in (s.0, settles_any L in_passes A s.1)
+settles_by {S} L in_passes k {w} A = settles_total S L k w A.well_formed
+settles_by {S} L in_any_order k {w} A = let s : (o : Outcome) × Settles S k w o = settles_total S L k w A.well_formed in (s.0, settles_any L in_passes A s.1)
 
 steps_by : {S : Setting} → Limits S.sheet → (j : Visiting) (k : ℕ) {w : Work} → Start S w → (t : Step) × StepsBy j S k w t
 steps_by {S} L j k A = let s = settles_by L j k A in (step_of (width S) s.0, record { outcome = s.0; settles = s.1; comes = refl })
@@ -157,13 +157,13 @@ module _ (c : Content) (L : Limits c) (f g : ℕ → ℕ → Option ℤ) (R : Sa
     steps : StepsBy j (under c g) (length q) v step
     meets : MeetSteps (under c f) (under c g) s step
 
-  step_too : {q : List (List ℤ)} {w v : Work} {s : Step} → OpenBy in_any_order (under c f) q w → OpenBy j (under c g) q v → StepsBy in_any_order (under c f) (length q) w s → StepToo q v s
+  step_too : {q : List (List ℤ)} {w v : Work} {s : Step} → OngoingBy in_any_order (under c f) q w → OngoingBy j (under c g) q v → StepsBy in_any_order (under c f) (length q) w s → StepToo q v s
   step_too {q} {w} {v} o d s =
       let m : Together (under c f) (under c g) q q w v = together c L f g R o (open_any L j d) refl in
       let t : (t : Step) × StepsBy j (under c g) (length q) v t = steps_by L j (length q) m.paired.other in
       record { step = t.0; steps = t.1; meets = steps_at c L f g R (length q) (length q) refl m.paired s (steps_any L j m.paired.other t.1) }
 
-  open_too : {q : List (List ℤ)} {w : Work} → OpenBy in_any_order (under c f) q w → (v : Work) × OpenBy j (under c g) q v
+  open_too : {q : List (List ℤ)} {w : Work} → OngoingBy in_any_order (under c f) q w → (v : Work) × OngoingBy j (under c g) q v
   open_too start = (first_work c.run, start)
   open_too (onward {r = r} {w = w} {u = u} {x = x} o s) =
       let d = open_too o in
@@ -187,7 +187,7 @@ orders_end S L = record {
   passes = λ r w o p s. settles_any L in_passes (start_of L o) s;
   engines = λ r w o. open_any L in_passes o;
   some_outcome = λ r w u o a. comes_to_an_end L o a;
-  no_endless_change = λ r w o. (left (width S), λ u v a. (visit_same, visit_falls S L (visits_move S L (start_of L o).tidy a).1));
+  no_endless_change = λ r w o. (left (width S), λ u v a. (visit_same, visit_falls S L (visits_move S L (start_of L o).well_formed a).1));
 }
 
 states_agree : (c : Content) (f g : ℕ → ℕ → Option ℤ) → Limits c → SameReadings f g → StatesAgree (under c f) (under c g)

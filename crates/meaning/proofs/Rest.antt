@@ -2,23 +2,23 @@
 use Rattle.std.proofs.Common.{◌≡◌, ℕ, zero, suc, ◌≤◌, cond, ◌≢◌, List, [], ◌∷◌, ℤ, pos, negsuc, Some, None, Option, sym, refl, ap, ◌∙◌, subst, arith}
 use native.Mathlib.Decide.{ℕ_discrete}
 use Rattle.std.specs.List.{slice_get}
-use Rattle.sheet.specs.declared.parts.Statement.{Statement}
-use Rattle.sheet.specs.declared.parts.Statement.TheVariants.{True, False, Empty, More, Is, And, If, Next, Always, Halt, Len, Gets, Chop, For, While, Request}
-use Rattle.value.specs.declared.parts.End.{End}
-use Rattle.value.specs.declared.parts.End.TheVariants.{Unknown, On, Last}
+use Rattle.sheet.specs.declared.elements.Statement.{Statement}
+use Rattle.sheet.specs.declared.elements.Statement.TheVariants.{True, False, Empty, More, Is, And, If, Next, Always, Halt, Len, Gets, Chop, For, While, Request}
+use Rattle.value.specs.declared.end.End.{End}
+use Rattle.value.specs.declared.end.End.TheVariants.{Unknown, On, Last}
 use Rattle.value.specs.Values.{truth}
-use Rattle.meaning.specs.declared.parts.Duty.{Duty}
-use Rattle.meaning.specs.declared.parts.Opening.{Opening}
-use Rattle.meaning.specs.declared.parts.Span.{Span}
+use Rattle.meaning.specs.declared.duties.Duty.{Duty}
+use Rattle.meaning.specs.declared.duties.Opening.{Opening}
+use Rattle.meaning.specs.declared.duties.Span.{Span}
 use Rattle.meaning.specs.Intervals.{Setting, statement_at}
 use Rattle.meaning.specs.Work.{Work, Outcome, plain, numbered}
 use Rattle.meaning.specs.Effects.{give, add, carry}
-use Rattle.meaning.specs.Rules.{known_for, once_known, when_on, chop_opening, for_opening, while_opening, halt_rule, len_rule, gets_rule, for_rule, while_rule, rule, take_last, hand_on, visit_opened}
+use Rattle.meaning.specs.Rules.{known_for, once_known, when_on, chop_opening, for_opening, while_opening, halt_rule, len_rule, gets_rule, for_rule, while_rule, rule, inherit_last, give_on, visit_opened}
 use Rattle.meaning.specs.Passes.{visit_or, visit_duties, visit_spans, pass_fuel, pass}
-use Rattle.meaning.specs.Order.{◌∈◌, here, there}
+use Rattle.meaning.specs.WellFormed.{◌∈◌, here, there}
 use Rattle.meaning.proofs.Lists.{none_some, some_injective, in_nth, nth_none}
 use Rattle.meaning.proofs.Tests.{Stands, unknown_on, unknown_last, on_last}
-use Rattle.meaning.proofs.Quiet.{Rests, quiet, loud_stop, says, then_rests, once_rests, when_rests, truth_rests, add_rests, carry_rests, put_rests, give_rests, open_rests}
+use Rattle.meaning.proofs.Unchanged.{Rests, quiet, loud_stop, says, then_rests, once_rests, when_rests, truth_rests, add_rests, carry_rests, put_rests, give_rests, open_rests}
 
 -- what a work at rest says of a `len` with a number
 abbrev pub LenRest : Duty → Work → ℤ → Type 0
@@ -103,12 +103,12 @@ abbrev pub SpanRest : Work → ℕ → Option Opening → Type 0
 SpanRest w s None = Unit {0}
 SpanRest w s (Some g) = (w.ends s ≡ On → w.ends g.follower.span ≡ On) × (w.ends s ≡ Last → g.follower ∈ w.duties) × (w.ends g.follower.span ≡ Last → w.ends s ≡ Last)
 
-take_rests : (c : End) (p s : ℕ) (w : Work) → Rests w (take_last c p s w) (c ≡ Last → w.ends s ≡ Last)
+take_rests : (c : End) (p s : ℕ) (w : Work) → Rests w (inherit_last c p s w) (c ≡ Last → w.ends s ≡ Last)
 take_rests Unknown p s w = says w _ _ _ (λ _ e. absurd (unknown_last e)) (quiet w)
 take_rests On p s w = says w _ _ _ (λ _ e. absurd (on_last e)) (quiet w)
 take_rests Last p s w = says w _ _ _ (λ h _. h) (put_rests p Last s w)
 
-hand_rests : (u : Work) (c : End) (g : Opening) → Rests u (hand_on c g u) ((c ≡ On → u.ends g.follower.span ≡ On) × (c ≡ Last → g.follower ∈ u.duties))
+hand_rests : (u : Work) (c : End) (g : Opening) → Rests u (give_on c g u) ((c ≡ On → u.ends g.follower.span ≡ On) × (c ≡ Last → g.follower ∈ u.duties))
 hand_rests u Unknown g = says u _ _ _ (λ _. ((λ e. absurd (unknown_on e)), (λ e. absurd (unknown_last e)))) (quiet u)
 hand_rests u On g = says u _ _ _ (λ h. ((λ _. h), (λ e. absurd (on_last e)))) (put_rests g.by On g.follower.span u)
 hand_rests u Last g = says u _ _ _ (λ h. ((λ e. absurd (on_last (sym e))), (λ _. h))) (add_rests g.follower u)
@@ -117,7 +117,7 @@ pub opened_rests : (w : Work) (s : ℕ) (q : Option Opening) → Rests w (visit_
 opened_rests w s None = quiet w
 opened_rests w s (Some g) =
     says w _ _ _ (λ h. (h.1.0, h.1.1, h.0))
-    (then_rests w _ (λ u. hand_on (u.ends s) g u) (w.ends g.follower.span ≡ Last → w.ends s ≡ Last) (λ u. (u.ends s ≡ On → u.ends g.follower.span ≡ On) × (u.ends s ≡ Last → g.follower ∈ u.duties))
+    (then_rests w _ (λ u. give_on (u.ends s) g u) (w.ends g.follower.span ≡ Last → w.ends s ≡ Last) (λ u. (u.ends s ≡ On → u.ends g.follower.span ≡ On) × (u.ends s ≡ Last → g.follower ∈ u.duties))
     (take_rests (w.ends g.follower.span) g.by s w) (λ u. hand_rests u (u.ends s) g))
 
 -- a pass that changes nothing

@@ -1,21 +1,21 @@
 -- What a work at rest grants, and that a work is placed in it exactly where it is a part of it.
 use Rattle.std.proofs.Common.{◌≡◌, ℕ, zero, suc, ◌<◌, true, List, ℤ, pos, negsuc, Some, None, Option, sym, refl, ◌∙◌, subst}
-use Rattle.sheet.specs.declared.parts.Expression.{Expression}
-use Rattle.sheet.specs.declared.parts.Statement.{Statement}
-use Rattle.sheet.specs.declared.parts.Statement.TheVariants.{True, False, Empty, More, Is, And, If, Next, Always, Halt, Len, Gets, Chop, For, While, Request}
-use Rattle.value.specs.declared.parts.End.{End}
-use Rattle.value.specs.declared.parts.End.TheVariants.{Unknown, On, Last}
+use Rattle.sheet.specs.declared.elements.Expression.{Expression}
+use Rattle.sheet.specs.declared.elements.Statement.{Statement}
+use Rattle.sheet.specs.declared.elements.Statement.TheVariants.{True, False, Empty, More, Is, And, If, Next, Always, Halt, Len, Gets, Chop, For, While, Request}
+use Rattle.value.specs.declared.end.End.{End}
+use Rattle.value.specs.declared.end.End.TheVariants.{Unknown, On, Last}
 use Rattle.value.specs.Values.{known_at}
-use Rattle.meaning.specs.declared.parts.Duty.{Duty}
-use Rattle.meaning.specs.declared.parts.Opening.{Opening}
-use Rattle.meaning.specs.Intervals.{Setting, statement_at, fits}
+use Rattle.meaning.specs.declared.duties.Duty.{Duty}
+use Rattle.meaning.specs.declared.duties.Opening.{Opening}
+use Rattle.meaning.specs.Intervals.{Setting, statement_at, value_fits}
 use Rattle.meaning.specs.Work.{Work}
-use Rattle.meaning.specs.Order.{◌∈◌, EndIs, Lives, FitSays, Nested, Tidy, IsEnded}
+use Rattle.meaning.specs.WellFormed.{◌∈◌, EndIs, Present, FitSays, Nested, WellFormed, IsEnded}
 use Rattle.meaning.proofs.Tests.{Stands, on_last}
 use Rattle.meaning.proofs.Rest.{Demands, LenRest, ForRest, Rest, pass_rests}
-use Rattle.meaning.proofs.Later.{more_known}
-use Rattle.meaning.proofs.PartOf.{Part, AsksAlike, KnowsAsMuch, AtRest, NoDoubles}
-use Rattle.meaning.proofs.Grants.{Grants, Shown, Opens, LenAsks, ForAsks, Asks, OuterBelow, Placed}
+use Rattle.meaning.proofs.Extending.{more_known}
+use Rattle.meaning.proofs.PartOf.{PartOfWork, AsksAlike, KnowsAsMuch, AtRest, NoDoubles}
+use Rattle.meaning.proofs.Grants.{Grants, Shown, OpensGranted, LenAsks, ForAsks, Asks, OuterBelow, PlacedIn}
 
 -- what a work grants to the works that lie in it one to one: it is never full, and contradicts nothing
 abbrev pub rest_grants : Work → Grants
@@ -39,8 +39,8 @@ pub same_knows : (S T : Setting) (u : Work) → S.sheet.expressions ≡ T.sheet.
 same_knows S T u p f c s e v h i q =
     subst (λ (l : List Expression). known_at l u.known (u.ends s) e ≡ Some v) p (more_known f u.known c (u.ends s) h (is_ended c (u.ends s) i) S.sheet.expressions e v q)
 
-module _ (S T : Setting) (k : ℕ) (u : Work) (K : KnowsAsMuch S T u) (R : Tidy T u) where
-  opens_of : (g : Opening) → Stands g u.spans → Opens (rest_grants u) g
+module _ (S T : Setting) (k : ℕ) (u : Work) (K : KnowsAsMuch S T u) (R : WellFormed T u) where
+  opens_of : (g : Opening) → Stands g u.spans → OpensGranted (rest_grants u) g
   opens_of g h =
       let e : h.span ≡ record { serial = h.span.serial; opening = Some g; fresh = true } = λ i. record { serial = h.span.serial; opening = h.opened i; fresh = h.newly i } in
       let b = R.bodies h.span h.inside g h.opened h.newly in
@@ -84,12 +84,12 @@ module _ (S T : Setting) (k : ℕ) (u : Work) (K : KnowsAsMuch S T u) (R : Tidy 
   pub one_end : (j : ℕ) → EndIs (u.ends j) On → EndIs (u.ends j) Last → ⊥
   one_end j a b = on_last (sym a ∙ b)
 
-  fits_of : (x : ℕ) (v : ℤ) (o : Option ℤ) → o ≡ Some v → FitSays T x o → fits T x v ≡ true
+  fits_of : (x : ℕ) (v : ℤ) (o : Option ℤ) → o ≡ Some v → FitSays T x o → value_fits T x v ≡ true
   fits_of x v o e h = subst (λ z. FitSays T x z) e h
 
   -- the part of being closed that speaks of what is granted alone
   pub record Closed : Type 0 where
-    pub fitting : (x : ℕ) (v : ℤ) → u.known x ≡ Some v → fits S x v ≡ true
+    pub fitting : (x : ℕ) (v : ℤ) → u.known x ≡ Some v → value_fits S x v ≡ true
     pub of_duty : (d : Duty) → d ∈ u.duties → Asks S k (rest_grants u) d (statement_at S d.statement) d.number
 
   pub closed : AsksAlike S T k → Rest T k u → Closed
@@ -99,26 +99,26 @@ module _ (S T : Setting) (k : ℕ) (u : Work) (K : KnowsAsMuch S T u) (R : Tidy 
   }
 
   -- a part of u is placed in what u grants
-  pub placed_of : (φ : ℕ → ℕ) (w : Work) → Tidy S w → Part φ w u → NoDoubles u w.next φ w → Placed (rest_grants u) w.next φ w
+  pub placed_of : (φ : ℕ → ℕ) (w : Work) → WellFormed S w → PartOfWork φ w u → NoDoubles u w.next φ w → PlacedIn (rest_grants u) w.next φ w
   placed_of φ w t P x = record {
     next_is = refl;
     values = P.known;
     ends = P.ends;
-    spans = λ r q. (t.young r q, outer r.serial r.opening (t.nested r q), P.spans r q);
+    spans = λ r q. (t.few_serials r q, outer r.serial r.opening (t.nested r q), P.spans r q);
     duties = λ d q. (below (t.duty_lives d q), P.duties d q);
     later = λ d q. (below (t.later_lives d q).0, P.later d q);
     besides = x;
   }
     where
-      below : {s : ℕ} → Lives w.spans s → s < w.next
-      below h = subst (λ z. z < w.next) h.named (t.young h.span h.inside)
+      below : {s : ℕ} → Present w.spans s → s < w.next
+      below h = subst (λ z. z < w.next) h.named (t.few_serials h.span h.inside)
 
       outer : (s : ℕ) (q : Option Opening) → Nested w.spans s q → OuterBelow w.next q
       outer s None h = tt
       outer s (Some g) h = below h.1
 
   -- and what is placed is a part
-  pub part_of : {n : ℕ} {φ : ℕ → ℕ} {w : Work} → Placed (rest_grants u) n φ w → Part φ w u
+  pub part_of : {n : ℕ} {φ : ℕ → ℕ} {w : Work} → PlacedIn (rest_grants u) n φ w → PartOfWork φ w u
   part_of Y = record { known = Y.values; ends = Y.ends; spans = λ t q. (Y.spans t q).2; duties = λ d q. (Y.duties d q).1; later = λ d q. (Y.later d q).1 }
 
 -- a work at rest says what it grants

@@ -3,20 +3,20 @@ use Rattle.std.proofs.Common.{◌≡◌, ℕ, zero, suc, ◌<◌, Bool, true, fa
 use Rattle.std.specs.List.{range_with_len}
 use Rattle.std.specs.Option.{unwrap_or}
 use Rattle.std.proofs.lemmas.Bool.{and_from}
-use Rattle.value.specs.declared.parts.End.{End}
-use Rattle.value.specs.declared.parts.End.TheVariants.{Unknown, On, Last}
-use Rattle.meaning.specs.declared.parts.Duty.{Duty}
-use Rattle.meaning.specs.declared.parts.LeftOpen.{LeftOpen}
-use Rattle.meaning.specs.declared.parts.Opening.{Opening}
-use Rattle.meaning.specs.declared.parts.Span.{Span}
+use Rattle.value.specs.declared.end.End.{End}
+use Rattle.value.specs.declared.end.End.TheVariants.{Unknown, On, Last}
+use Rattle.meaning.specs.declared.duties.Duty.{Duty}
+use Rattle.meaning.specs.declared.duties.LeftOpen.{LeftOpen}
+use Rattle.meaning.specs.declared.duties.Opening.{Opening}
+use Rattle.meaning.specs.declared.duties.Span.{Span}
 use Rattle.meaning.specs.Intervals.{Setting}
 use Rattle.meaning.specs.Work.{Work}
 use Rattle.meaning.specs.Runs.{going_on, next_work, is_ended, all_ended, lowest_unknown, left_open, state_of}
-use Rattle.meaning.specs.Order.{◌∈◌, here, there, EndIs, Lives, Nested, Tidy, IsEnded}
+use Rattle.meaning.specs.WellFormed.{◌∈◌, here, there, EndIs, Present, Nested, WellFormed, IsEnded}
 use Rattle.meaning.specs.AnyOrder.{duty_renamed, opening_renamed, opened_renamed, span_renamed, SameButForOrder}
-use Rattle.meaning.proofs.Steady.{all_ended_says}
-use Rattle.meaning.proofs.Begun.{Stays, going_in, stale, in_going, lives_going}
-use Rattle.meaning.proofs.PartOf.{Part, Distinct, Neat, Like, Twins}
+use Rattle.meaning.proofs.SettledStates.{all_ended_says}
+use Rattle.meaning.proofs.RunsInSomeOrder.{Stays, going_in, stale, in_going, lives_going}
+use Rattle.meaning.proofs.PartOf.{PartOfWork, Distinct, Neat, Like, Twins}
 use Rattle.meaning.proofs.Distinct.{permuted, fits_in}
 use Rattle.meaning.proofs.Starts.{Start, Born, SettledFrom, next_start}
 use Rattle.meaning.proofs.InRest.{send, send_held}
@@ -25,7 +25,7 @@ use Rattle.meaning.proofs.InRest.{send, send_held}
 
 -- a work in order, no entry of which comes twice
 pub record Orderly (S : Setting) (w : Work) : Type 0 where
-  pub tidy : Tidy S w
+  pub well_formed : WellFormed S w
   pub neat : Neat w
   pub duties : Distinct w.duties
 
@@ -34,10 +34,10 @@ pub record Sent (φ ψ : ℕ → ℕ) (w v : Work) : Type 0 where
   pub spans : (t : Span) → t ∈ w.spans → span_renamed φ t ∈ v.spans
   pub duties : (d : Duty) → d ∈ w.duties → duty_renamed φ d ∈ v.duties
   pub later : (d : Duty) → d ∈ w.later → duty_renamed φ d ∈ v.later
-  pub back : (s : ℕ) → Lives w.spans s → ψ (φ s) ≡ s
+  pub back : (s : ℕ) → Present w.spans s → ψ (φ s) ≡ s
 
 module _ {S : Setting} {φ ψ : ℕ → ℕ} {w v : Work} (A : Orderly S w) (H : Sent φ ψ w v) where
-  duty_back : (d : Duty) → Lives w.spans d.span → duty_renamed ψ (duty_renamed φ d) ≡ d
+  duty_back : (d : Duty) → Present w.spans d.span → duty_renamed ψ (duty_renamed φ d) ≡ d
   duty_back d l = λ i. record { statement = d.statement; number = d.number; span = H.back d.span l i }
 
   opened_back : (s : ℕ) (q : Option Opening) → Nested w.spans s q → opened_renamed ψ (opened_renamed φ q) ≡ q
@@ -49,14 +49,14 @@ module _ {S : Setting} {φ ψ : ℕ → ℕ} {w v : Work} (A : Orderly S w) (H :
   span_back : (t : Span) → t ∈ w.spans → span_renamed ψ (span_renamed φ t) ≡ t
   span_back t q =
       let a : ψ (φ t.serial) ≡ t.serial = H.back t.serial (record { span = t; inside = q; named = refl }) in
-      let b : opened_renamed ψ (opened_renamed φ t.opening) ≡ t.opening = opened_back t.serial t.opening (A.tidy.nested t q) in
+      let b : opened_renamed ψ (opened_renamed φ t.opening) ≡ t.opening = opened_back t.serial t.opening (A.well_formed.nested t q) in
       λ i. record { serial = a i; opening = b i; fresh = t.fresh }
 
 one_of : {S : Setting} {φ ψ : ℕ → ℕ} {w v : Work} → Orderly S w → Sent φ ψ w v → (t r : Span) → t ∈ w.spans → r ∈ w.spans → span_renamed φ t ≡ span_renamed φ r → t ≡ r
 one_of {φ = φ} {ψ = ψ} A H t r p q e = sym (span_back A H t p) ∙ ap (span_renamed ψ) e ∙ span_back A H r q
 
 pub same_but_for_order : {S T : Setting} {φ ψ : ℕ → ℕ} {w v : Work} → Orderly S w → Orderly T v → Sent φ ψ w v → Sent ψ φ v w → φ 0 ≡ 0
-    → ((x : ℕ) → w.known x ≡ v.known x) → ((s : ℕ) → Lives w.spans s → w.ends s ≡ v.ends (φ s)) → w.next ≡ v.next → SameButForOrder w v
+    → ((x : ℕ) → w.known x ≡ v.known x) → ((s : ℕ) → Present w.spans s → w.ends s ≡ v.ends (φ s)) → w.next ≡ v.next → SameButForOrder w v
 same_but_for_order {φ = φ} {ψ = ψ} {w = w} {v = v} A B H I z k e x = record {
   rename = φ;
   back = ψ;
@@ -65,11 +65,11 @@ same_but_for_order {φ = φ} {ψ = ψ} {w = w} {v = v} A B H I z k e x = record 
   known = k;
   ends = e;
   spans = permuted (span_renamed φ) (span_renamed ψ) w.spans v.spans A.neat.spans B.neat.spans H.spans I.spans (span_back A H) (span_back B I);
-  duties = permuted (duty_renamed φ) (duty_renamed ψ) w.duties v.duties A.duties B.duties H.duties I.duties (λ d q. duty_back A H d (A.tidy.duty_lives d q)) (λ d q. duty_back B I d (B.tidy.duty_lives d q));
-  later = permuted (duty_renamed φ) (duty_renamed ψ) w.later v.later A.neat.later B.neat.later H.later I.later (λ d q. duty_back A H d (A.tidy.later_lives d q).0) (λ d q. duty_back B I d (B.tidy.later_lives d q).0);
-  owed = A.tidy.duty_lives;
-  carried = λ d q. (A.tidy.later_lives d q).0;
-  outer = λ t g q o. (subst (λ z. Nested w.spans t.serial z) o (A.tidy.nested t q)).1;
+  duties = permuted (duty_renamed φ) (duty_renamed ψ) w.duties v.duties A.duties B.duties H.duties I.duties (λ d q. duty_back A H d (A.well_formed.duty_lives d q)) (λ d q. duty_back B I d (B.well_formed.duty_lives d q));
+  later = permuted (duty_renamed φ) (duty_renamed ψ) w.later v.later A.neat.later B.neat.later H.later I.later (λ d q. duty_back A H d (A.well_formed.later_lives d q).0) (λ d q. duty_back B I d (B.well_formed.later_lives d q).0);
+  owed = A.well_formed.duty_lives;
+  carried = λ d q. (A.well_formed.later_lives d q).0;
+  outer = λ t g q o. (subst (λ z. Nested w.spans t.serial z) o (A.well_formed.nested t q)).1;
   next = x;
 }
 
@@ -83,7 +83,7 @@ pub record Paired (S T : Setting) (w v : Work) : Type 0 where
   pub next : w.next ≡ v.next
 
 start_orderly : {S : Setting} {w : Work} → Start S w → Orderly S w
-start_orderly A = record { tidy = A.tidy; neat = A.neat; duties = A.duties }
+start_orderly A = record { well_formed = A.well_formed; neat = A.neat; duties = A.duties }
 
 nothing_later : {S : Setting} {w : Work} {d : Duty} {P : Type 0} → Start S w → d ∈ w.later → P
 nothing_later {d = d} A q = absurd (elim (subst (λ l. d ∈ l) A.nothing q) [ ])
@@ -107,8 +107,8 @@ pub record Mutual (S T : Setting) (k : ℕ) (w b u v : Work) : Type 0 where
   pub duties_other : Distinct v.duties
   pub χ : ℕ → ℕ
   pub ω : ℕ → ℕ
-  pub there : Part χ u v
-  pub back : Part ω v u
+  pub there : PartOfWork χ u v
+  pub back : PartOfWork ω v u
   pub as_there : (s : ℕ) → s < w.next → χ s ≡ send w.spans v.next starts.twins.φ s
   pub as_back : (s : ℕ) → s < b.next → ω s ≡ send b.spans u.next starts.twins.ψ s
 
@@ -131,29 +131,29 @@ mutual_back M = record {
 }
 
 module _ {S T : Setting} {k : ℕ} {w b u v : Work} (M : Mutual S T k w b u v) where
-  start_below : {R : Setting} {l : Work} {s : ℕ} → Start R l → Lives l.spans s → s < l.next
-  start_below {l = l} A h = subst (λ z. z < l.next) h.named (A.tidy.young h.span h.inside)
+  start_below : {R : Setting} {l : Work} {s : ℕ} → Start R l → Present l.spans s → s < l.next
+  start_below {l = l} A h = subst (λ z. z < l.next) h.named (A.well_formed.few_serials h.span h.inside)
 
   -- a serial of the start goes there as at the start
-  go_old : (s : ℕ) → Lives w.spans s → M.χ s ≡ M.starts.twins.φ s
+  go_old : (s : ℕ) → Present w.spans s → M.χ s ≡ M.starts.twins.φ s
   go_old s h = M.as_there s (start_below M.starts.one h) ∙ send_held w.spans v.next M.starts.twins.φ s h
 
-  back_old : (s : ℕ) → Lives w.spans s → M.ω (M.χ s) ≡ s
+  back_old : (s : ℕ) → Present w.spans s → M.ω (M.χ s) ≡ s
   back_old s h =
       let H : Like M.starts.twins.φ M.starts.twins.ψ w b = M.starts.twins.there in
-      let c : Lives b.spans (M.starts.twins.φ s) = record { span = span_renamed M.starts.twins.φ h.span; inside = H.spans h.span h.inside; named = ap M.starts.twins.φ h.named } in
+      let c : Present b.spans (M.starts.twins.φ s) = record { span = span_renamed M.starts.twins.φ h.span; inside = H.spans h.span h.inside; named = ap M.starts.twins.φ h.named } in
       ap M.ω (go_old s h) ∙ M.as_back (M.starts.twins.φ s) (start_below M.starts.other c) ∙ send_held b.spans u.next M.starts.twins.ψ (M.starts.twins.φ s) c ∙ H.back s h
 
   -- there and back is the same serial, by the serials of the outer spans
-  come_back : (m s : ℕ) → s < m → Lives u.spans s → M.ω (M.χ s) ≡ s
+  come_back : (m s : ℕ) → s < m → Present u.spans s → M.ω (M.χ s) ≡ s
   come_back zero s l h = absurd (omega arith)
   come_back (suc m) s l h = by h.span h.inside h.named (M.from_one.since h.span h.inside) (λ r i c. come_back m r (omega arith) c)
     where
-      by : (t : Span) → t ∈ u.spans → t.serial ≡ s → (t ∈ w.spans) ⊎ Born t → ((r : ℕ) → r < s → Lives u.spans r → M.ω (M.χ r) ≡ r) → M.ω (M.χ s) ≡ s
+      by : (t : Span) → t ∈ u.spans → t.serial ≡ s → (t ∈ w.spans) ⊎ Born t → ((r : ℕ) → r < s → Present u.spans r → M.ω (M.χ r) ≡ r) → M.ω (M.χ s) ≡ s
       by t q e (inl o) ih = back_old s (record { span = t; inside = o; named = e })
       by t q e (inr n) ih =
           let g : Opening = n.how in
-          let nest : (g.follower.span < t.serial) × Lives u.spans g.follower.span = subst (λ z. Nested u.spans t.serial z) n.opened (M.from_one.resting.tidy.nested t q) in
+          let nest : (g.follower.span < t.serial) × Present u.spans g.follower.span = subst (λ z. Nested u.spans t.serial z) n.opened (M.from_one.resting.well_formed.nested t q) in
           let c : M.ω (M.χ g.follower.span) ≡ g.follower.span = ih g.follower.span (omega (arith, nest.0, e)) nest.1 in
           let r : span_renamed M.ω (span_renamed M.χ t) ∈ u.spans = M.back.spans (span_renamed M.χ t) (M.there.spans t q) in
           let again : opening_renamed M.ω (opening_renamed M.χ g) ≡ g = λ i. record { by = g.by; body = g.body; starts = g.starts; follower = record { statement = g.follower.statement; number = g.follower.number; span = c i } } in
@@ -161,7 +161,7 @@ module _ {S T : Setting} {k : ℕ} {w b u v : Work} (M : Mutual S T k w b u v) w
           let same : span_renamed M.ω (span_renamed M.χ t) ≡ t = M.from_one.neat.one_opening g (span_renamed M.ω (span_renamed M.χ t)) t r q n.newly n.newly o n.opened in
           ap (λ (z : ℕ). M.ω (M.χ z)) (sym e) ∙ ap (λ (z : Span). z.serial) same ∙ e
 
-  there_back : (s : ℕ) → Lives u.spans s → M.ω (M.χ s) ≡ s
+  there_back : (s : ℕ) → Present u.spans s → M.ω (M.χ s) ≡ s
   there_back s h = come_back (suc s) s (omega arith) h
 
   whole_stays : M.χ 0 ≡ 0
@@ -174,7 +174,7 @@ module _ {S T : Setting} {k : ℕ} {w b u v : Work} (M : Mutual S T k w b u v) w
   rest_sent = record { spans = M.there.spans; duties = M.there.duties; later = M.there.later; back = there_back }
 
   rest_orderly : Orderly S u
-  rest_orderly = record { tidy = M.from_one.resting.tidy; neat = M.from_one.neat; duties = M.duties_one }
+  rest_orderly = record { well_formed = M.from_one.resting.well_formed; neat = M.from_one.neat; duties = M.duties_one }
 
   -- so do the spans that go on
   going_there : (t : Span) → Stays u.ends u.spans t → span_renamed M.χ t ∈ going_on v.ends v.spans
@@ -202,12 +202,12 @@ module _ {S T : Setting} {k : ℕ} {w b u v : Work} (M : Mutual S T k w b u v) w
     back = next_sent.back;
     whole = whole_stays;
     has_whole =
-        let h : Lives w.spans 0 = M.starts.twins.there.has_whole in
+        let h : Present w.spans 0 = M.starts.twins.there.has_whole in
         lives_going u.ends u.spans 0 (record { span = h.span; inside = M.from_one.resting.grown.more_spans h.span h.inside; named = h.named }) o;
   }
 
   -- an end that is known there is known here
-  ended_there : (s : ℕ) → Lives u.spans s → IsEnded (v.ends (M.χ s)) → IsEnded (u.ends s)
+  ended_there : (s : ℕ) → Present u.spans s → IsEnded (v.ends (M.χ s)) → IsEnded (u.ends s)
   ended_there s h i = subst (λ z. IsEnded (u.ends z)) (there_back s h) (ended (v.ends (M.χ s)) (u.ends (M.ω (M.χ s))) (M.back.ends (M.χ s)) i)
     where
       ended : (c e : End) → EndIs e c → IsEnded c → IsEnded e
@@ -254,7 +254,7 @@ module _ {S T : Setting} {k : ℕ} {w b u v : Work} (M : Mutual S T k w b u v) w
       both_ends (u.ends 0) (v.ends 0) (subst (λ z. EndIs (v.ends z) (u.ends 0)) (whole_stays M) (M.there.ends 0))
       (subst (λ z. EndIs (u.ends z) (v.ends 0)) (whole_stays (mutual_back M)) (M.back.ends 0))
 
-  ends_same : (s : ℕ) → Lives u.spans s → u.ends s ≡ v.ends (M.χ s)
+  ends_same : (s : ℕ) → Present u.spans s → u.ends s ≡ v.ends (M.χ s)
   ends_same s h = both_ends (u.ends s) (v.ends (M.χ s)) (M.there.ends s) (subst (λ z. EndIs (u.ends z) (v.ends (M.χ s))) (there_back M s h) (M.back.ends (M.χ s)))
 
   all_same : all_ended u.ends u.spans ≡ all_ended v.ends v.spans

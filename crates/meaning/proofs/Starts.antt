@@ -2,31 +2,31 @@
 use Rattle.std.proofs.Common.{◌≡◌, ℕ, ◌+◌, ◌<◌, true, false, List, [], ◌∷◌, length, Some, None, ◌⊎◌, inl, inr, sym, refl, ap, ◌∙◌, subst, arith}
 use Rattle.std.proofs.lemmas.Bool.{both_ways}
 use Rattle.sheet.specs.Limits.{Limits}
-use Rattle.value.specs.declared.parts.End.{End}
-use Rattle.value.specs.declared.parts.End.TheVariants.{Unknown, On, Last}
-use Rattle.meaning.specs.declared.parts.Opening.{Opening}
-use Rattle.meaning.specs.declared.parts.Span.{Span}
+use Rattle.value.specs.declared.end.End.{End}
+use Rattle.value.specs.declared.end.End.TheVariants.{Unknown, On, Last}
+use Rattle.meaning.specs.declared.duties.Opening.{Opening}
+use Rattle.meaning.specs.declared.duties.Span.{Span}
 use Rattle.meaning.specs.Intervals.{Setting}
 use Rattle.meaning.specs.Work.{Work, goes}
 use Rattle.meaning.specs.Passes.{pass}
 use Rattle.meaning.specs.Visiting.{SettlesInAnyOrder, comes_to_rest}
 use Rattle.meaning.specs.Runs.{whole_span, first_work, kept_by, going_on, next_work}
 use Rattle.meaning.specs.Laws.{Roomy}
-use Rattle.meaning.specs.Order.{◌∈◌, here, there, Tidy}
+use Rattle.meaning.specs.WellFormed.{◌∈◌, here, there, WellFormed}
 use Rattle.meaning.proofs.Lists.{all_snoc, longer}
-use Rattle.meaning.proofs.Kept.{Kept, kept_any_order}
+use Rattle.meaning.proofs.VisitsKeep.{Kept, kept_any_order}
 use Rattle.meaning.proofs.Changes.{kept_by_changes}
 use Rattle.meaning.proofs.Fuel.{roomy_kept, next_roomy}
-use Rattle.meaning.proofs.Begun.{Stays, going_in, stale}
-use Rattle.meaning.proofs.Grown.{Resting}
+use Rattle.meaning.proofs.RunsInSomeOrder.{Stays, going_in, stale}
+use Rattle.meaning.proofs.StaysWellFormed.{Resting}
 use Rattle.meaning.proofs.AnyVisits.{any_order_rests}
-use Rattle.meaning.proofs.Finish.{next_tidy, first_tidy}
+use Rattle.meaning.proofs.FinishedSatisfies.{next_tidy, first_tidy}
 use Rattle.meaning.proofs.PartOf.{AtRest, Distinct, Neat}
 use Rattle.meaning.proofs.Neat.{neat_kept}
 
 -- what a state starts with
 pub record Start (S : Setting) (w : Work) : Type 0 where
-  pub tidy : Tidy S w
+  pub well_formed : WellFormed S w
   pub neat : Neat w
   pub roomy : Roomy w
   pub duties : Distinct w.duties
@@ -80,10 +80,10 @@ quiet_of (comes_to_rest a e) = e
 
 pub settled_from : {S : Setting} → Limits S.sheet → {k : ℕ} {w u : Work} → Start S w → SettlesInAnyOrder S k w (goes u false) → SettledFrom S k w u
 settled_from {S} L {k} {w} {u} A s =
-    let R : Resting S k w u = any_order_rests S L A.tidy s in
+    let R : Resting S k w u = any_order_rests S L A.well_formed s in
     record {
       resting = R;
-      at_rest = record { tidy = R.tidy; quiet = quiet_of s };
+      at_rest = record { well_formed = R.well_formed; quiet = quiet_of s };
       neat = kept_any_order S Neat (neat_kept S) s A.neat;
       roomy = kept_any_order S Roomy (roomy_kept S) s A.roomy;
       since = kept_any_order S (Since w) (since_kept S w) s (λ t q. inl q);
@@ -117,9 +117,9 @@ stay_one u N t r a b e =
 module _ {S : Setting} where
   pub next_start : {k : ℕ} {w u : Work} → SettledFrom S k w u → Start S (next_work u)
   next_start {k} {w} {u} D = record {
-    tidy = next_tidy k w u D.resting;
+    well_formed = next_tidy k w u D.resting;
     neat = record {
-      young = λ t q. let a = going_in u.ends u.spans t q in subst (λ z. z < u.next) a.same_serial (D.neat.young a.was a.was_in);
+      few_serials = λ t q. let a = going_in u.ends u.spans t q in subst (λ z. z < u.next) a.same_serial (D.neat.few_serials a.was a.was_in);
       one_serial = λ t r q p. stay_one u D.neat t r (going_in u.ends u.spans t q) (going_in u.ends u.spans r p);
       one_opening = λ g t r q p a b. absurd (both_ways t.fresh (going_in u.ends u.spans t q).stale a);
       spans = distinct_going u.ends u.spans D.neat.spans D.neat.one_serial;
@@ -134,9 +134,9 @@ module _ {S : Setting} where
 
   pub first_start : (p : ℕ) → Start S (first_work p)
   first_start p = record {
-    tidy = first_tidy p;
+    well_formed = first_tidy p;
     neat = record {
-      young = λ t q. young t q;
+      few_serials = λ t q. few_serials t q;
       one_serial = λ t r q p e. only t q ∙ sym (only r p);
       one_opening = λ g t r q p a b o c. only t q ∙ sym (only r p);
       spans = ((λ q. elim q [ ]), tt);
@@ -153,5 +153,5 @@ module _ {S : Setting} where
       only t (here e) = e
       only t (there q) = elim q [ ]
 
-      young : (t : Span) → t ∈ (whole_span ∷ []) → t.serial < 1
-      young t q = subst (λ z. z.serial < 1) (sym (only t q)) (omega arith)
+      few_serials : (t : Span) → t ∈ (whole_span ∷ []) → t.serial < 1
+      few_serials t q = subst (λ z. z.serial < 1) (sym (only t q)) (omega arith)

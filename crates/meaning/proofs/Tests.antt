@@ -1,30 +1,30 @@
 -- What the tests on numbers, duties, ends and openings say.
 use Rattle.std.proofs.Common.{◌≡◌, zero, suc, true, false, cond, ◌&&◌, eqb, ◌≢◌, List, [], ◌∷◌, ℤ, pos, negsuc, Some, None, Option, sym, refl, ap, subst, ⊎_elim, arith}
 use Rattle.std.proofs.lemmas.Bool.{false≢true, both_ways, eqb-true, eq-eqb, ne_eqb, and_parts, and_from, or_cases, or_left, or_right}
-use Rattle.value.specs.declared.parts.End.{End}
-use Rattle.value.specs.declared.parts.End.TheVariants.{Unknown, On, Last}
-use Rattle.value.specs.Values.{truth, same}
-use Rattle.meaning.specs.declared.parts.Duty.{Duty}
-use Rattle.meaning.specs.declared.parts.Opening.{Opening}
-use Rattle.meaning.specs.declared.parts.Span.{Span}
+use Rattle.value.specs.declared.end.End.{End}
+use Rattle.value.specs.declared.end.End.TheVariants.{Unknown, On, Last}
+use Rattle.value.specs.Values.{truth, equal_numbers}
+use Rattle.meaning.specs.declared.duties.Duty.{Duty}
+use Rattle.meaning.specs.declared.duties.Opening.{Opening}
+use Rattle.meaning.specs.declared.duties.Span.{Span}
 use Rattle.meaning.specs.Work.{same_number, same_duty, has_duty, same_end, same_opening, opened_by, has_opened}
-use Rattle.meaning.specs.Order.{◌∈◌, here, there}
+use Rattle.meaning.specs.WellFormed.{◌∈◌, here, there}
 
 -- numbers that pass are equal
-pub same_true : (u v : ℤ) → same u v ≡ true → u ≡ v
+pub same_true : (u v : ℤ) → equal_numbers u v ≡ true → u ≡ v
 same_true (pos a) (pos b) e = ap pos (eqb-true a b e)
 same_true (pos a) (negsuc b) e = absurd (false≢true e)
 same_true (negsuc a) (pos b) e = absurd (false≢true e)
 same_true (negsuc a) (negsuc b) e = ap negsuc (eqb-true a b e)
 
 -- a number passes with itself
-pub same-itself : (u : ℤ) → same u u ≡ true
+pub same-itself : (u : ℤ) → equal_numbers u u ≡ true
 same-itself (pos a) = eq-eqb a a refl
 same-itself (negsuc a) = eq-eqb a a refl
 
 -- numbers that do not pass are not equal
-pub same_false : (u v : ℤ) → same u v ≡ false → u ≡ v → ⊥
-same_false u v e p = both_ways (same u v) e (subst (λ z. same u z ≡ true) p (same-itself u))
+pub same_false : (u v : ℤ) → equal_numbers u v ≡ false → u ≡ v → ⊥
+same_false u v e p = both_ways (equal_numbers u v) e (subst (λ z. equal_numbers u z ≡ true) p (same-itself u))
 
 same_number_says : (a b : Option ℤ) → same_number a b ≡ true → a ≡ b
 same_number_says None None e = refl

@@ -3,63 +3,63 @@ use Rattle.std.proofs.Common.{◌≡◌, ℕ, suc, ◌-◌, ◌<◌, ◌≤◌, 
 use native.Mathlib.Decide.{ℕ_discrete}
 use Rattle.std.proofs.lemmas.Bool.{cases_lt}
 use Rattle.std.proofs.lemmas.List.{get_or_past}
-use Rattle.sheet.specs.declared.parts.Variable.{Variable}
+use Rattle.sheet.specs.declared.elements.Variable.{Variable}
 use Rattle.sheet.specs.Content.{no_variable}
 use Rattle.sheet.specs.Limits.{Limits}
-use Rattle.value.specs.declared.parts.End.{End}
-use Rattle.value.specs.declared.parts.End.TheVariants.{Unknown, On, Last}
+use Rattle.value.specs.declared.end.End.{End}
+use Rattle.value.specs.declared.end.End.TheVariants.{Unknown, On, Last}
 use Rattle.value.specs.Values.{in_range}
-use Rattle.value.proofs.Numbers.{Agrees}
-use Rattle.meaning.specs.declared.parts.LeftOpen.{LeftOpen}
-use Rattle.meaning.specs.declared.parts.Stop.{Stop}
-use Rattle.meaning.specs.declared.parts.Stop.TheVariants.{Contradiction, Undetermined, Crowded}
-use Rattle.meaning.specs.Intervals.{Setting, width, statement_at, fits, value_in, States}
+use Rattle.value.proofs.Numbers.{MatchesNumber}
+use Rattle.meaning.specs.declared.duties.LeftOpen.{LeftOpen}
+use Rattle.meaning.specs.declared.duties.Stop.{Stop}
+use Rattle.meaning.specs.declared.duties.Stop.TheVariants.{Contradiction, Undetermined, Crowded}
+use Rattle.meaning.specs.Intervals.{Setting, width, statement_at, value_fits, value_in, States}
 use Rattle.meaning.specs.Holds.{Satisfies}
 use Rattle.meaning.specs.Work.{Work, Outcome, stops, goes}
 use Rattle.meaning.specs.Passes.{Settles}
 use Rattle.meaning.specs.Visiting.{SettlesInAnyOrder, in_passes, in_any_order}
-use Rattle.meaning.specs.Runs.{left_open, Step, stopped, recorded, finished, closed_by, judged_by, step_of, Steps, StoppedBy, stop}
+use Rattle.meaning.specs.Runs.{left_open, Step, stopped, recorded, finished, closed_by, judged_by, step_of, Steps, MetStopBy, stop}
 use Rattle.meaning.specs.Laws.{SettlingEnds, FinishedIsTheOne, OpenBeginsAll, ContradictionLeavesNone}
-use Rattle.meaning.specs.Order.{FitSays}
-use Rattle.meaning.proofs.Owed.{Owed, owed, holds}
-use Rattle.meaning.proofs.Known.{IsGiven}
-use Rattle.meaning.proofs.Grown.{settles_total}
-use Rattle.meaning.proofs.Begun.{Rows, Begins, at_first, one_on}
-use Rattle.meaning.proofs.Fore.{Fore, Fits, fore, contradiction_refutes, ends_same}
-use Rattle.meaning.proofs.Finish.{row_rests, ends_hold}
-use Rattle.meaning.proofs.One.{steps_one}
+use Rattle.meaning.specs.WellFormed.{FitSays}
+use Rattle.meaning.proofs.Owing.{Owed, owed, holds}
+use Rattle.meaning.proofs.KnownNumbers.{IsGiven}
+use Rattle.meaning.proofs.StaysWellFormed.{settles_total}
+use Rattle.meaning.proofs.RunsInSomeOrder.{Rows, RunBegins, at_first, one_on}
+use Rattle.meaning.proofs.RecordPrefix.{Fore, Fits, fore, contradiction_refutes, ends_same}
+use Rattle.meaning.proofs.FinishedSatisfies.{row_rests, ends_hold}
+use Rattle.meaning.proofs.OneOutcome.{steps_one}
 use Rattle.meaning.proofs.Records.{Started, CompleteRun, started, completed}
 use Rattle.meaning.proofs.AnyRuns.{start_of, open_any, finished_any, stopped_any}
 
 -- every recorded number is in its range
-fits_of : (S : Setting) (x : ℕ) (q : Option ℤ) (r : ℤ) → FitSays S x q → Agrees q r → IsGiven q → fits S x r ≡ true
+fits_of : (S : Setting) (x : ℕ) (q : Option ℤ) (r : ℤ) → FitSays S x q → MatchesNumber q r → IsGiven q → value_fits S x r ≡ true
 fits_of S x None r f h g = absurd g
-fits_of S x (Some v) r f h g = subst (λ (z : ℤ). fits S x z ≡ true) h f
+fits_of S x (Some v) r f h g = subst (λ (z : ℤ). value_fits S x z ≡ true) h f
 
 module _ (S : Setting) (L : Limits S.sheet) where
-  row_legal : {ρ : ℕ → ℕ → ℤ} {k : ℕ} {w u : Work} → Begins S ρ k w → Rows S ρ k w u → (x : ℕ) → x < width S → fits S x (ρ k x) ≡ true
-  row_legal {ρ} {k} {w} {u} b r x h = fits_of S x (u.known x) (ρ k x) ((row_rests S L b r).tidy.fitted x) (r.values x h) (r.complete.all_given x h)
+  row_legal : {ρ : ℕ → ℕ → ℤ} {k : ℕ} {w u : Work} → RunBegins S ρ k w → Rows S ρ k w u → (x : ℕ) → x < width S → value_fits S x (ρ k x) ≡ true
+  row_legal {ρ} {k} {w} {u} b r x h = fits_of S x (u.known x) (ρ k x) ((row_rests S L b r).well_formed.fitted x) (r.values x h) (r.complete.all_given x h)
 
-  one_more : (ρ : ℕ → ℕ → ℤ) (k : ℕ) → ((i : ℕ) → i < k → (x : ℕ) → x < width S → fits S x (ρ i x) ≡ true) → ((x : ℕ) → x < width S → fits S x (ρ k x) ≡ true) → (i : ℕ) → i < suc k → (x : ℕ) → x < width S → fits S x (ρ i x) ≡ true
+  one_more : (ρ : ℕ → ℕ → ℤ) (k : ℕ) → ((i : ℕ) → i < k → (x : ℕ) → x < width S → value_fits S x (ρ i x) ≡ true) → ((x : ℕ) → x < width S → value_fits S x (ρ k x) ≡ true) → (i : ℕ) → i < suc k → (x : ℕ) → x < width S → value_fits S x (ρ i x) ≡ true
   one_more ρ k a b i h x l = by (ℕ_discrete i k)
     where
-      by : Dec (i ≡ k) → fits S x (ρ i x) ≡ true
-      by (yes e) = subst (λ j. fits S x (ρ j x) ≡ true) (sym e) (b x l)
+      by : Dec (i ≡ k) → value_fits S x (ρ i x) ≡ true
+      by (yes e) = subst (λ j. value_fits S x (ρ j x) ≡ true) (sym e) (b x l)
       by (no q) = a i (omega arith) x l
 
-  begins_legal : {ρ : ℕ → ℕ → ℤ} {k : ℕ} {w : Work} → Begins S ρ k w → (i : ℕ) → i < k → (x : ℕ) → x < width S → fits S x (ρ i x) ≡ true
+  begins_legal : {ρ : ℕ → ℕ → ℤ} {k : ℕ} {w : Work} → RunBegins S ρ k w → (i : ℕ) → i < k → (x : ℕ) → x < width S → value_fits S x (ρ i x) ≡ true
   begins_legal at_first i h x l = absurd (omega arith)
   begins_legal {ρ} (one_on {k = k} b r o) i h x l = one_more ρ k (begins_legal b) (row_legal b r) i h x l
 
   -- a state past the variables is 0, which fits what stands for a variable that is not there
-  past_fits : (l : List (List ℤ)) (i x : ℕ) → length (get_or l i []) ≡ width S → width S ≤ x → fits S x (value_in l i x) ≡ true
+  past_fits : (l : List (List ℤ)) (i x : ℕ) → length (get_or l i []) ≡ width S → width S ≤ x → value_fits S x (value_in l i x) ≡ true
   past_fits l i x e h =
-      ap (λ (z : ℤ). fits S x z) (get_or_past (get_or l i []) x (pos 0) (omega (arith, e))) ∙ ap (λ (v : Variable). in_range v (pos 0)) (get_or_past S.sheet.variables x no_variable h)
+      ap (λ (z : ℤ). value_fits S x z) (get_or_past (get_or l i []) x (pos 0) (omega (arith, e))) ∙ ap (λ (v : Variable). in_range v (pos 0)) (get_or_past S.sheet.variables x no_variable h)
 
   as_fits : (l : List (List ℤ)) → Satisfies S l → Fits S (value_in l) (length l - 1)
   as_fits l h = record { legal = legal; holds = owed h.holds }
     where
-      legal : (i : ℕ) → i ≤ length l - 1 → (x : ℕ) → fits S x (value_in l i x) ≡ true
+      legal : (i : ℕ) → i ≤ length l - 1 → (x : ℕ) → value_fits S x (value_in l i x) ≡ true
       legal i q x =
           let n : i < length l = omega (arith, h.interval.some_state) in
           ⊎_elim (λ (a : x < width S). h.interval.each.ranged i n x a) (λ (a : width S ≤ x). past_fits l i x (h.interval.each.wide i n) a) (cases_lt x (width S))
@@ -143,7 +143,7 @@ contradiction_of n p (goes w c) e = absurd (judged_no (left_open n w) n p w e)
 
 pub settling_ends : SettlingEnds
 settling_ends S L r w o =
-    let q : (x : Outcome) × Settles S (length r) w x = settles_total S L (length r) w (start_of L (open_any L in_passes o)).tidy in
+    let q : (x : Outcome) × Settles S (length r) w x = settles_total S L (length r) w (start_of L (open_any L in_passes o)).well_formed in
     let t : Steps S (length r) w (step_of (width S) q.0) = record { outcome = q.0; settles = q.1; comes = refl } in
     (step_of (width S) q.0, t, λ s a. steps_one t a)
 
@@ -155,7 +155,7 @@ open_begins_all S L i r w o =
     let B : Started S r w = started (open_any L i o) in
     (record { wide = B.wide; ranged = begins_legal S L B.begun }, λ l h. (open_longer S L r l w B h, open_begins S L r l w B h))
 
-contradicted : (S : Setting) → Limits S.sheet → {r : List (List ℤ)} {s : Stop} → StoppedBy in_any_order S r s → (p : ℕ) → s ≡ Contradiction p → (l : List (List ℤ)) → Satisfies S l → ⊥
+contradicted : (S : Setting) → Limits S.sheet → {r : List (List ℤ)} {s : Stop} → MetStopBy in_any_order S r s → (p : ℕ) → s ≡ Contradiction p → (l : List (List ℤ)) → Satisfies S l → ⊥
 contradicted S L (stop {r = r} {w = w} o q) p e l h =
     contradiction_refutes S L (as_fits S L l h) (started o).begun
     (subst (λ x. SettlesInAnyOrder S (length r) w x) (contradiction_of (width S) p q.outcome (q.comes ∙ ap stopped e)) q.settles)

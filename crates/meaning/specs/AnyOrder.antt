@@ -3,18 +3,18 @@ use Rattle.std.specs.Prelude.{◌≡◌, ℕ, ◌<◌, ◌≤◌, true, false, L
 use Rattle.sheet.specs.Content.{Content}
 use Rattle.sheet.specs.Limits.{Limits}
 use Rattle.feed.specs.Readings.{SameReadings}
-use Rattle.meaning.specs.declared.parts.Duty.{Duty}
-use Rattle.meaning.specs.declared.parts.LeftOpen.{LeftOpen}
-use Rattle.meaning.specs.declared.parts.Opening.{Opening}
-use Rattle.meaning.specs.declared.parts.Span.{Span}
-use Rattle.meaning.specs.declared.parts.Stop.{Stop}
-use Rattle.meaning.specs.declared.parts.Stop.TheVariants.{Contradiction, Undetermined, Crowded}
+use Rattle.meaning.specs.declared.duties.Duty.{Duty}
+use Rattle.meaning.specs.declared.duties.LeftOpen.{LeftOpen}
+use Rattle.meaning.specs.declared.duties.Opening.{Opening}
+use Rattle.meaning.specs.declared.duties.Span.{Span}
+use Rattle.meaning.specs.declared.duties.Stop.{Stop}
+use Rattle.meaning.specs.declared.duties.Stop.TheVariants.{Contradiction, Undetermined, Crowded}
 use Rattle.meaning.specs.Intervals.{Setting, under}
 use Rattle.meaning.specs.Work.{Work, Outcome, stops, goes}
 use Rattle.meaning.specs.Passes.{Settles}
 use Rattle.meaning.specs.Visiting.{OneVisit, Visits, SettlesInAnyOrder, Visiting, in_any_order}
-use Rattle.meaning.specs.Runs.{next_work, left_open, Open, OpenBy, FinishedBy, StoppedBy, RecordBy}
-use Rattle.meaning.specs.Members.{◌∈◌, Lives}
+use Rattle.meaning.specs.Runs.{next_work, left_open, Ongoing, OngoingBy, FinishedBy, MetStopBy, RecordBy}
+use Rattle.meaning.specs.Members.{◌∈◌, Present}
 
 -- a duty whose span has another serial
 abbrev pub duty_renamed : (ℕ → ℕ) → Duty → Duty
@@ -37,19 +37,19 @@ pub record SameButForOrder (w v : Work) : Type 0 where
   -- the serial that a span of w has in v, and the way back: no two spans get one serial, and the whole interval keeps its own
   pub rename : ℕ → ℕ
   pub back : ℕ → ℕ
-  pub undone : (s : ℕ) → Lives w.spans s → back (rename s) ≡ s
+  pub undone : (s : ℕ) → Present w.spans s → back (rename s) ≡ s
   pub whole : rename 0 ≡ 0
   -- the same is known of each variable, and of the end of each span
   pub known : (x : ℕ) → w.known x ≡ v.known x
-  pub ends : (s : ℕ) → Lives w.spans s → w.ends s ≡ v.ends (rename s)
+  pub ends : (s : ℕ) → Present w.spans s → w.ends s ≡ v.ends (rename s)
   -- the lists have the same entries, each as often
   pub spans : IsPermutation (map (span_renamed rename) w.spans) v.spans
   pub duties : IsPermutation (map (duty_renamed rename) w.duties) v.duties
   pub later : IsPermutation (map (duty_renamed rename) w.later) v.later
   -- every serial that is used is that of a span, so none is renamed at will
-  pub owed : (d : Duty) → d ∈ w.duties → Lives w.spans d.span
-  pub carried : (d : Duty) → d ∈ w.later → Lives w.spans d.span
-  pub outer : (t : Span) (g : Opening) → t ∈ w.spans → t.opening ≡ Some g → Lives w.spans g.follower.span
+  pub owed : (d : Duty) → d ∈ w.duties → Present w.spans d.span
+  pub carried : (d : Duty) → d ∈ w.later → Present w.spans d.span
+  pub outer : (t : Span) (g : Opening) → t ∈ w.spans → t.opening ≡ Some g → Present w.spans g.follower.span
   -- the next span gets the same serial
   pub next : w.next ≡ v.next
 
@@ -68,7 +68,7 @@ pub data SameOutcome : Outcome → Outcome → Type 0 where
 -- a run that has ended, with its record: none where it has finished, or the stop that it has met
 pub data EndedBy (i : Visiting) (S : Setting) (r : List (List ℤ)) : Option Stop → Type 0 where
   has_finished : FinishedBy i S r → EndedBy i S r None
-  has_stopped : {s : Stop} → StoppedBy i S r s → EndedBy i S r (Some s)
+  has_stopped : {s : Stop} → MetStopBy i S r s → EndedBy i S r (Some s)
 
 -- two verdicts of one kind: both finished, both undetermined with the same left open, or both a contradiction or crowding
 pub data SameVerdict : Option Stop → Option Stop → Type 0 where
@@ -79,19 +79,19 @@ pub data SameVerdict : Option Stop → Option Stop → Type 0 where
 -- every order of visits leads to an end: of the states of one setting's runs
 pub record OrdersEnd (S : Setting) : Type 0 where
   -- passes are one of the orders: what they come to, some order comes to, and so it is along whole runs
-  pub passes : (r : List (List ℤ)) (w : Work) → OpenBy in_any_order S r w → (o : Outcome) → Settles S (length r) w o → SettlesInAnyOrder S (length r) w o
-  pub engines : (r : List (List ℤ)) (w : Work) → Open S r w → OpenBy in_any_order S r w
+  pub passes : (r : List (List ℤ)) (w : Work) → OngoingBy in_any_order S r w → (o : Outcome) → Settles S (length r) w o → SettlesInAnyOrder S (length r) w o
+  pub engines : (r : List (List ℤ)) (w : Work) → Ongoing S r w → OngoingBy in_any_order S r w
   -- whatever has been visited so far, there are visits that bring the state to an outcome
-  pub some_outcome : (r : List (List ℤ)) (w u : Work) → OpenBy in_any_order S r w → Visits S (length r) w u → (o : Outcome) × SettlesInAnyOrder S (length r) u o
+  pub some_outcome : (r : List (List ℤ)) (w u : Work) → OngoingBy in_any_order S r w → Visits S (length r) w u → (o : Outcome) × SettlesInAnyOrder S (length r) u o
   -- and no order changes it for ever: a visit that reports no change leaves the work as it is, and each other lowers a measure
-  pub no_endless_change : (r : List (List ℤ)) (w : Work) → OpenBy in_any_order S r w
+  pub no_endless_change : (r : List (List ℤ)) (w : Work) → OngoingBy in_any_order S r w
       → (measure : Work → ℕ) × ((u v : Work) → Visits S (length r) w u → (OneVisit S (length r) u (goes v false) → v ≡ u) × (OneVisit S (length r) u (goes v true) → measure v < measure u))
 
 -- two runs, each state of which was visited in an order of its own: at equal counts the records are equal, and the next states start with works that
 -- are the same but for order, and come to outcomes that are the same but for order
 abbrev pub StatesAgree : Setting → Setting → Type 0
 StatesAgree S T =
-    (q r : List (List ℤ)) (w v : Work) → OpenBy in_any_order S q w → OpenBy in_any_order T r v → length q ≡ length r
+    (q r : List (List ℤ)) (w v : Work) → OngoingBy in_any_order S q w → OngoingBy in_any_order T r v → length q ≡ length r
     → (q ≡ r) × SameButForOrder w v × ((o p : Outcome) → SettlesInAnyOrder S (length q) w o → SettlesInAnyOrder T (length r) v p → SameOutcome o p)
 
 -- whole runs, of the one and of the other way of visiting
@@ -101,10 +101,10 @@ pub record RunsAgree (S T : Setting) (i j : Visiting) : Type 0 where
   -- two that have ended have the same record, and verdicts of one kind
   pub verdicts : (q r : List (List ℤ)) (x y : Option Stop) → EndedBy i S q x → EndedBy j T r y → (q ≡ r) × SameVerdict x y
   -- where the one has finished, or met a stop, the other goes no further
-  pub finished : (q r : List (List ℤ)) (w : Work) → FinishedBy i S q → OpenBy j T r w → length r < length q
-  pub stopped : (q r : List (List ℤ)) (s : Stop) (w : Work) → StoppedBy i S q s → OpenBy j T r w → length r ≤ length q
+  pub finished : (q r : List (List ℤ)) (w : Work) → FinishedBy i S q → OngoingBy j T r w → length r < length q
+  pub stopped : (q r : List (List ℤ)) (s : Stop) (w : Work) → MetStopBy i S q s → OngoingBy j T r w → length r ≤ length q
   -- what a run has recorded, some run of the other kind records too; and where it has ended, some run of the other kind ends with the same record and a like verdict
-  pub reaches : (q : List (List ℤ)) (w : Work) → OpenBy i S q w → (v : Work) × OpenBy j T q v
+  pub reaches : (q : List (List ℤ)) (w : Work) → OngoingBy i S q w → (v : Work) × OngoingBy j T q v
   pub reaches_end : (q : List (List ℤ)) (x : Option Stop) → EndedBy i S q x → (y : Option Stop) × EndedBy j T q y × SameVerdict x y
 
 -- the order of visits makes no difference: for every sheet that keeps the limits, and all readings; equal readings where two runs are compared

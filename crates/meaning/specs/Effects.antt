@@ -1,13 +1,13 @@
 -- The five effects that a visit can have: it gives a variable its number, puts a span's end, adds a duty, carries one, or opens a span.
 -- The first two can meet a contradiction, which is placed at statement p; the others can find their list full. Assumes nothing.
 use Rattle.std.specs.Prelude.{ℕ, suc, Bool, true, cond, ◌&&◌, [], ◌∷◌, ◌++◌, length, ℤ, Some, None, Option, nat_lt}
-use Rattle.value.specs.declared.parts.End.{End}
-use Rattle.value.specs.declared.parts.End.TheVariants.{Unknown, On, Last}
-use Rattle.value.specs.Values.{same}
-use Rattle.meaning.specs.declared.parts.Duty.{Duty}
-use Rattle.meaning.specs.declared.parts.Opening.{Opening}
-use Rattle.meaning.specs.declared.parts.Stop.TheVariants.{Contradiction, Crowded}
-use Rattle.meaning.specs.Intervals.{Setting, fits}
+use Rattle.value.specs.declared.end.End.{End}
+use Rattle.value.specs.declared.end.End.TheVariants.{Unknown, On, Last}
+use Rattle.value.specs.Values.{equal_numbers}
+use Rattle.meaning.specs.declared.duties.Duty.{Duty}
+use Rattle.meaning.specs.declared.duties.Opening.{Opening}
+use Rattle.meaning.specs.declared.duties.Stop.TheVariants.{Contradiction, Crowded}
+use Rattle.meaning.specs.Intervals.{Setting, value_fits}
 use Rattle.meaning.specs.Work.{Work, Outcome, stops, unchanged, changed, set_at, plain, has_duty, has_opened}
 
 -- the most duties in a list
@@ -51,8 +51,8 @@ if_room room w = cond room (changed w) (stops Crowded)
 
 -- to give variable x the number v, by what is known of x: a new number must lie in the range, and a second one must be the same
 abbrev pub give_by : Setting → ℕ → Option ℤ → ℕ → ℤ → Work → Outcome
-give_by S p None x v w = cond (fits S x v) (changed (with_value x v w)) (stops (Contradiction p))
-give_by S p (Some u) x v w = cond (same u v) (unchanged w) (stops (Contradiction p))
+give_by S p None x v w = cond (value_fits S x v) (changed (with_value x v w)) (stops (Contradiction p))
+give_by S p (Some u) x v w = cond (equal_numbers u v) (unchanged w) (stops (Contradiction p))
 
 abbrev pub give : Setting → ℕ → ℕ → ℤ → Work → Outcome
 give S p x v w = give_by S p (w.known x) x v w

@@ -1,7 +1,7 @@
 -- What a statement asks of a piece of an interval, and when an interval satisfies a sheet. Assumes nothing.
 use Rattle.std.specs.Prelude.{◌≡◌, ℕ, suc, ◌+◌, ◌-◌, ◌<◌, ◌≤◌, ◌≢◌, List, length, ℤ, pos, negsuc, Some, ◌==◌}
-use Rattle.sheet.specs.declared.parts.Statement.{Statement}
-use Rattle.sheet.specs.declared.parts.Statement.TheVariants.{True, Empty, More, Is, And, If, Next, Always, Halt, Len, Gets, Chop, For, While, Request}
+use Rattle.sheet.specs.declared.elements.Statement.{Statement}
+use Rattle.sheet.specs.declared.elements.Statement.TheVariants.{True, Empty, More, Is, And, If, Next, Always, Halt, Len, Gets, Chop, For, While, Request}
 use Rattle.value.specs.Values.{number_at}
 use Rattle.meaning.specs.Intervals.{Setting, statement_at, value_in, Interval}
 

@@ -11,5 +11,5 @@ pub mod Visiting
 pub mod Runs
 pub mod Laws
 pub mod AnyOrder
-pub mod Order
+pub mod WellFormed
 pub mod Waiting

@@ -1,10 +1,10 @@
 -- A pass over the work of a state, and passes until one changes nothing. Assumes nothing.
 use Rattle.std.specs.Prelude.{◌≡◌, ℕ, zero, suc, true, false, List, [], ◌∷◌, Some, None, Option}
 use Rattle.std.specs.List.{slice_get}
-use Rattle.meaning.specs.declared.parts.Duty.{Duty}
-use Rattle.meaning.specs.declared.parts.Span.{Span}
-use Rattle.meaning.specs.declared.parts.Stop.{Stop}
-use Rattle.meaning.specs.declared.parts.Stop.TheVariants.{Crowded}
+use Rattle.meaning.specs.declared.duties.Duty.{Duty}
+use Rattle.meaning.specs.declared.duties.Span.{Span}
+use Rattle.meaning.specs.declared.duties.Stop.{Stop}
+use Rattle.meaning.specs.declared.duties.Stop.TheVariants.{Crowded}
 use Rattle.meaning.specs.Intervals.{Setting}
 use Rattle.meaning.specs.Work.{Work, Outcome, stops, goes, unchanged, and_then}
 use Rattle.meaning.specs.Effects.{most_duties}

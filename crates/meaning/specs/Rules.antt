@@ -1,14 +1,14 @@
 -- What a visit to a duty and a visit to a span do. Assumes nothing.
 use Rattle.std.specs.Prelude.{ℕ, zero, suc, cond, ℤ, pos, negsuc, Some, None, Option}
-use Rattle.sheet.specs.declared.parts.Statement.{Statement}
-use Rattle.sheet.specs.declared.parts.Statement.TheVariants.{True, False, Empty, More, Is, And, If, Next, Always, Halt, Len, Gets, Chop, For, While, Request}
-use Rattle.value.specs.declared.parts.End.{End}
-use Rattle.value.specs.declared.parts.End.TheVariants.{Unknown, On, Last}
+use Rattle.sheet.specs.declared.elements.Statement.{Statement}
+use Rattle.sheet.specs.declared.elements.Statement.TheVariants.{True, False, Empty, More, Is, And, If, Next, Always, Halt, Len, Gets, Chop, For, While, Request}
+use Rattle.value.specs.declared.end.End.{End}
+use Rattle.value.specs.declared.end.End.TheVariants.{Unknown, On, Last}
 use Rattle.value.specs.Values.{truth, known_at}
-use Rattle.meaning.specs.declared.parts.Duty.{Duty}
-use Rattle.meaning.specs.declared.parts.Opening.{Opening}
-use Rattle.meaning.specs.declared.parts.Span.{Span}
-use Rattle.meaning.specs.declared.parts.Stop.TheVariants.{Contradiction}
+use Rattle.meaning.specs.declared.duties.Duty.{Duty}
+use Rattle.meaning.specs.declared.duties.Opening.{Opening}
+use Rattle.meaning.specs.declared.duties.Span.{Span}
+use Rattle.meaning.specs.declared.duties.Stop.TheVariants.{Contradiction}
 use Rattle.meaning.specs.Intervals.{Setting, statement_at}
 use Rattle.meaning.specs.Work.{Work, Outcome, stops, unchanged, and_then, plain, numbered}
 use Rattle.meaning.specs.Effects.{give, put, add, carry, open_span}
@@ -91,21 +91,21 @@ abbrev pub visit : Setting → ℕ → Duty → Work → Outcome
 visit S k d w = rule S k (statement_at S d.statement) d.number d w
 
 -- a visited span with serial s takes "last" from its outer span, by what is known of the end of that
-abbrev pub take_last : End → ℕ → ℕ → Work → Outcome
-take_last Unknown p s w = unchanged w
-take_last On p s w = unchanged w
-take_last Last p s w = put p Last s w
+abbrev pub inherit_last : End → ℕ → ℕ → Work → Outcome
+inherit_last Unknown p s w = unchanged w
+inherit_last On p s w = unchanged w
+inherit_last Last p s w = put p Last s w
 
 -- a visited span gives "on" to its outer span, or, once it is last, adds what follows it, by what is known of its own end
-abbrev pub hand_on : End → Opening → Work → Outcome
-hand_on Unknown g w = unchanged w
-hand_on On g w = put g.by On g.follower.span w
-hand_on Last g w = add g.follower w
+abbrev pub give_on : End → Opening → Work → Outcome
+give_on Unknown g w = unchanged w
+give_on On g w = put g.by On g.follower.span w
+give_on Last g w = add g.follower w
 
 -- a visit to the span with serial s: the whole interval has nothing around it, and nothing follows it
 abbrev pub visit_opened : Option Opening → ℕ → Work → Outcome
 visit_opened None s w = unchanged w
-visit_opened (Some g) s w = and_then (take_last (w.ends g.follower.span) g.by s w) (λ u. hand_on (u.ends s) g u)
+visit_opened (Some g) s w = and_then (inherit_last (w.ends g.follower.span) g.by s w) (λ u. give_on (u.ends s) g u)
 
 -- a visit to a span
 abbrev pub visit_span : Span → Work → Outcome

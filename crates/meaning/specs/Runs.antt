@@ -2,14 +2,14 @@
 use Rattle.std.specs.Prelude.{◌≡◌, ℕ, zero, suc, Bool, true, false, if◌then◌else◌, ◌&&◌, List, [], ◌∷◌, ◌++◌, map, length, ℤ, pos, Some, None, Option}
 use Rattle.std.specs.List.{range_with_len}
 use Rattle.std.specs.Option.{unwrap_or}
-use Rattle.value.specs.declared.parts.End.{End}
-use Rattle.value.specs.declared.parts.End.TheVariants.{Unknown, On, Last}
-use Rattle.meaning.specs.declared.parts.Duty.{Duty}
-use Rattle.meaning.specs.declared.parts.LeftOpen.{LeftOpen}
-use Rattle.meaning.specs.declared.parts.LeftOpen.TheVariants.{Variable}
-use Rattle.meaning.specs.declared.parts.Span.{Span}
-use Rattle.meaning.specs.declared.parts.Stop.{Stop}
-use Rattle.meaning.specs.declared.parts.Stop.TheVariants.{Undetermined}
+use Rattle.value.specs.declared.end.End.{End}
+use Rattle.value.specs.declared.end.End.TheVariants.{Unknown, On, Last}
+use Rattle.meaning.specs.declared.duties.Duty.{Duty}
+use Rattle.meaning.specs.declared.duties.LeftOpen.{LeftOpen}
+use Rattle.meaning.specs.declared.duties.LeftOpen.TheVariants.{Variable}
+use Rattle.meaning.specs.declared.duties.Span.{Span}
+use Rattle.meaning.specs.declared.duties.Stop.{Stop}
+use Rattle.meaning.specs.declared.duties.Stop.TheVariants.{Undetermined}
 use Rattle.meaning.specs.Intervals.{Setting, width}
 use Rattle.meaning.specs.Work.{Work, Outcome, stops, goes, plain}
 use Rattle.meaning.specs.Visiting.{Visiting, in_passes, SettlesBy}
@@ -106,37 +106,37 @@ pub record StepsBy (i : Visiting) (S : Setting) (k : ℕ) (w : Work) (s : Step) 
   pub comes : step_of (width S) outcome ≡ s
 
 -- a run that goes on, its states visited in this way: its record so far, and the work that its next state starts with
-pub data OpenBy (i : Visiting) (S : Setting) : List (List ℤ) → Work → Type 0 where
+pub data OngoingBy (i : Visiting) (S : Setting) : List (List ℤ) → Work → Type 0 where
   -- nothing is recorded
-  start : OpenBy i S [] (first_work S.sheet.run)
+  start : OngoingBy i S [] (first_work S.sheet.run)
   -- one state more is
-  onward : {r : List (List ℤ)} {w u : Work} {x : List ℤ} → OpenBy i S r w → StepsBy i S (length r) w (recorded x u) → OpenBy i S (r ++ x ∷ []) u
+  onward : {r : List (List ℤ)} {w u : Work} {x : List ℤ} → OngoingBy i S r w → StepsBy i S (length r) w (recorded x u) → OngoingBy i S (r ++ x ∷ []) u
 
 -- a run that has finished, with its record
 pub data FinishedBy (i : Visiting) (S : Setting) : List (List ℤ) → Type 0 where
-  finish : {r : List (List ℤ)} {w : Work} {x : List ℤ} → OpenBy i S r w → StepsBy i S (length r) w (finished x) → FinishedBy i S (r ++ x ∷ [])
+  finish : {r : List (List ℤ)} {w : Work} {x : List ℤ} → OngoingBy i S r w → StepsBy i S (length r) w (finished x) → FinishedBy i S (r ++ x ∷ [])
 
 -- a run that has met a stop, with its record; the stop is at the state after the record
-pub data StoppedBy (i : Visiting) (S : Setting) : List (List ℤ) → Stop → Type 0 where
-  stop : {r : List (List ℤ)} {w : Work} {s : Stop} → OpenBy i S r w → StepsBy i S (length r) w (stopped s) → StoppedBy i S r s
+pub data MetStopBy (i : Visiting) (S : Setting) : List (List ℤ) → Stop → Type 0 where
+  stop : {r : List (List ℤ)} {w : Work} {s : Stop} → OngoingBy i S r w → StepsBy i S (length r) w (stopped s) → MetStopBy i S r s
 
 -- a list of states is the record of a run, at some moment of it
 pub data RecordBy (i : Visiting) (S : Setting) (r : List (List ℤ)) : Type 0 where
-  open_record : (w : Work) → OpenBy i S r w → RecordBy i S r
+  open_record : (w : Work) → OngoingBy i S r w → RecordBy i S r
   finished_record : FinishedBy i S r → RecordBy i S r
 
 -- the same of the runs of an engine, which visits in passes
 abbrev pub Steps : Setting → ℕ → Work → Step → Type 0
 Steps S k w s = StepsBy in_passes S k w s
 
-abbrev pub Open : Setting → List (List ℤ) → Work → Type 0
-Open S r w = OpenBy in_passes S r w
+abbrev pub Ongoing : Setting → List (List ℤ) → Work → Type 0
+Ongoing S r w = OngoingBy in_passes S r w
 
 abbrev pub Finished : Setting → List (List ℤ) → Type 0
 Finished S r = FinishedBy in_passes S r
 
-abbrev pub Stopped : Setting → List (List ℤ) → Stop → Type 0
-Stopped S r s = StoppedBy in_passes S r s
+abbrev pub MetStop : Setting → List (List ℤ) → Stop → Type 0
+MetStop S r s = MetStopBy in_passes S r s
 
 abbrev pub Record : Setting → List (List ℤ) → Type 0
 Record S r = RecordBy in_passes S r

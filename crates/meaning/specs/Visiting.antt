@@ -1,8 +1,8 @@
 -- In which order the work of a state is visited: in passes, as an engine visits it, or in any order at all. Assumes nothing.
 use Rattle.std.specs.Prelude.{◌≡◌, ℕ, Bool, false}
-use Rattle.meaning.specs.declared.parts.Duty.{Duty}
-use Rattle.meaning.specs.declared.parts.Span.{Span}
-use Rattle.meaning.specs.declared.parts.Stop.{Stop}
+use Rattle.meaning.specs.declared.duties.Duty.{Duty}
+use Rattle.meaning.specs.declared.duties.Span.{Span}
+use Rattle.meaning.specs.declared.duties.Stop.{Stop}
 use Rattle.meaning.specs.Intervals.{Setting}
 use Rattle.meaning.specs.Work.{Work, Outcome, stops, goes, unchanged}
 use Rattle.meaning.specs.Rules.{visit, visit_span}

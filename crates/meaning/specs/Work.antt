@@ -1,12 +1,12 @@
 -- The work of one state, and what comes of a part of it. Assumes nothing.
 use Rattle.std.specs.Prelude.{ℕ, Bool, true, false, cond, ◌&&◌, ◌||◌, List, [], ◌∷◌, ℤ, Some, None, Option, ◌==◌}
-use Rattle.value.specs.declared.parts.End.{End}
-use Rattle.value.specs.declared.parts.End.TheVariants.{Unknown, On, Last}
-use Rattle.value.specs.Values.{same}
-use Rattle.meaning.specs.declared.parts.Duty.{Duty}
-use Rattle.meaning.specs.declared.parts.Opening.{Opening}
-use Rattle.meaning.specs.declared.parts.Span.{Span}
-use Rattle.meaning.specs.declared.parts.Stop.{Stop}
+use Rattle.value.specs.declared.end.End.{End}
+use Rattle.value.specs.declared.end.End.TheVariants.{Unknown, On, Last}
+use Rattle.value.specs.Values.{equal_numbers}
+use Rattle.meaning.specs.declared.duties.Duty.{Duty}
+use Rattle.meaning.specs.declared.duties.Opening.{Opening}
+use Rattle.meaning.specs.declared.duties.Span.{Span}
+use Rattle.meaning.specs.declared.duties.Stop.{Stop}
 
 -- what is at hand while a state is settled
 pub record Work : Type 0 where
@@ -63,7 +63,7 @@ abbrev pub same_number : Option ℤ → Option ℤ → Bool
 same_number None None = true
 same_number None (Some v) = false
 same_number (Some u) None = false
-same_number (Some u) (Some v) = same u v
+same_number (Some u) (Some v) = equal_numbers u v
 
 -- whether two duties are one
 abbrev pub same_duty : Duty → Duty → Bool

@@ -5,7 +5,7 @@ ghost use Rattle.meaning.specs.Passes.{pass_fuel};
 ghost use Rattle.meaning.specs.AnyOrder.{OrderMakesNoDifference};
 ghost use Rattle.meaning.specs.Laws.{SettlingEnds, FinishedIsTheOne, OpenBeginsAll, ContradictionLeavesNone, EqualRunsAgree, FuelSuffices};
 
-use crate::parts::Duty;
+use crate::duties::Duty;
 
 // The duty that state 0 of every run starts with: the statement that is run, owed by the whole interval.
 // What comes of it keeps these laws.

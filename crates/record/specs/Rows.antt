@@ -12,5 +12,5 @@ abbrev pub rows : ℕ → ℕ → List ℤ → List (List ℤ)
 rows width n memory = map (row width memory) (range_with_len 0 n)
 
 -- how many states of a width a table of so many numbers takes
-abbrev pub capacity_of : ℕ → ℕ → ℕ
-capacity_of size width = cut (size / width)
+abbrev pub table_capacity : ℕ → ℕ → ℕ
+table_capacity size width = cut (size / width)

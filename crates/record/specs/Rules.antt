@@ -43,10 +43,10 @@ abbrev pub fitting : ℕ → ℕ → List ℤ → Bool
 fitting room width xs = nat_lt 0 room && length xs == width && all_small xs
 
 -- the value of a variable in a state, where there is such a state
-abbrev pub within : Option (List ℤ) → ℕ → Option ℤ
-within None variable = None
-within (Some xs) variable = slice_get xs variable
+abbrev pub value_there : Option (List ℤ) → ℕ → Option ℤ
+value_there None variable = None
+value_there (Some xs) variable = slice_get xs variable
 
 -- the value of a variable in the state at a place of the list, or none
 abbrev pub look_at : List (List ℤ) → ℕ → ℕ → Option ℤ
-look_at states place variable = within (slice_get states place) variable
+look_at states place variable = value_there (slice_get states place) variable

@@ -6,7 +6,7 @@ ghost use Rattle.record.specs.Rules.{all_small, allowed_width};
 pub const MOST_WIDTH: usize = 16;
 
 // The most states that a recorder takes.
-pub const MOST_STATES: usize = 65_535;
+pub const MOST_RECORDED: usize = 65_535;
 
 // The largest value that is recorded; the smallest is the same below 0.
 pub const MOST_VALUE: i64 = 1_000_000;

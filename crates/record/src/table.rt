@@ -1,10 +1,10 @@
 // A table of states in lent numbers.
 ghost use Rattle.std.specs.Prelude.{◌≡◌, ◌+◌, ◌*◌, length, pos, slice_index_or};
-ghost use Rattle.record.specs.Rows.{capacity_of, rows};
+ghost use Rattle.record.specs.Rows.{table_capacity, rows};
 ghost use Rattle.record.specs.Rules.{Allowed};
 
 use crate::recorder::Recorder;
-use crate::rules::{MOST_STATES, all_small, allowed_width};
+use crate::rules::{MOST_RECORDED, all_small, allowed_width};
 
 // A recorder that writes state k from place k * width of its memory on, and looks it up there.
 // The memory is lent and its count and room stand beside it, since a recorder has no heap to hold a `Vec`.
@@ -17,7 +17,7 @@ pub struct TableRecorder<'a> {
     // The width is an allowed one.
     ghost wide: { Allowed width },
     // What is recorded and what is left make up the capacity.
-    ghost whole: { count + room ≡ capacity_of (length memory.now) width },
+    ghost whole: { count + room ≡ table_capacity (length memory.now) width },
 }
 
 impl<'a> TableRecorder<'a> {
@@ -25,11 +25,11 @@ impl<'a> TableRecorder<'a> {
     pub fn new(memory: &'a mut [i64]) -> TableRecorder<'a>
         ensures wide { result.width ≡ 1 }
         ensures empty { result.count ≡ 0 }
-        ensures roomy { result.room ≡ capacity_of (length memory.old) 1 }
+        ensures roomy { result.room ≡ table_capacity (length memory.old) 1 }
         ensures holds { result.memory.now ≡ memory.old }
         ensures same { result.memory.ghost_name ≡ memory.entry.ghost_name }
     {
-        let room = memory.len().min(MOST_STATES);
+        let room = memory.len().min(MOST_RECORDED);
         TableRecorder {
             memory,
             width: 1,
@@ -45,29 +45,29 @@ impl<'a> Recorder for TableRecorder<'a> {
     ghost states = { λ s. rows s.width s.count s.memory.now };
 
     // The width that it was started with.
-    ghost breadth = { λ s. s.width };
+    ghost state_width = { λ s. s.width };
 
     // The rows that are left.
-    ghost spare = { λ s. s.room };
+    ghost room_left = { λ s. s.room };
 
     // The whole rows that the memory has, cut at the most states.
-    ghost capacity = { λ s w. capacity_of (length s.memory.now) w };
+    ghost capacity = { λ s w. table_capacity (length s.memory.now) w };
 
     // The slice that it was made over.
-    ghost lent = { λ s. s.memory.ghost_name };
+    ghost memory_name = { λ s. s.memory.ghost_name };
 
     // The places of the rows that are written.
-    ghost reach = { λ s. s.count * s.width };
+    ghost written_length = { λ s. s.count * s.width };
 
     // The number at a place of the slice.
-    ghost cell = { λ s k. slice_index_or s.memory.now k (pos 0) };
+    ghost memory_at = { λ s k. slice_index_or s.memory.now k (pos 0) };
 
     // Sets the width, and counts the rows from the front again. It writes nothing.
     fn start(&mut self, width: usize) -> bool {
         if !allowed_width(width) {
             return false;
         }
-        let room = (self.memory.len() / width).min(MOST_STATES);
+        let room = (self.memory.len() / width).min(MOST_RECORDED);
         self.width = width;
         self.count = 0;
         self.room = room;

@@ -1,3 +1,3 @@
 -- A statement of a sheet keeps its rules, and what an `always` goes by.
-pub mod Proper
-pub mod Ends
+pub mod StatementRules
+pub mod KnownEnds

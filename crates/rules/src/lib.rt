@@ -2,12 +2,12 @@
 #![tactic(auto)]
 
 mod opening;
-mod parts;
 mod plain;
 mod spans;
+mod visit;
 mod visiting;
 mod waiting;
 
-pub use crate::parts::Visited;
 pub use crate::spans::visit_span;
+pub use crate::visit::Visited;
 pub use crate::visiting::visit_duty;

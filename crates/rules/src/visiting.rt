@@ -3,15 +3,16 @@ ghost use Rattle.std.specs.Prelude.{◌≡◌, ℕ, true, not, ℤ, vec_len, Opt
 ghost use Rattle.std.specs.List.{slice_get};
 ghost use Rattle.sheet.specs.Limits.{statement_ok};
 ghost use Rattle.meaning.specs.Intervals.{under};
-ghost use Rattle.meaning.specs.Order.{Lives, FitSays};
+ghost use Rattle.meaning.specs.WellFormed.{Present, FitSays};
 ghost use Rattle.meaning.specs.Rules.{visit};
 ghost use Rattle.meaning.specs.Waiting.{waits};
-ghost use Rattle.board.specs.Answers.{told};
-ghost use Rattle.board.specs.Held.{held, sheet_of};
-ghost use Rattle.rules.specs.Visits.{Ready, ruled, awaits, changed};
+ghost use Rattle.board.specs.Outcomes.{outcome_of};
+ghost use Rattle.board.specs.Work.{work_of};
+ghost use Rattle.sheet.specs.ContentOf.{content_of};
+ghost use Rattle.rules.specs.Visits.{Ready, ruled, awaits, visit_changed};
 
-use crate::parts::{Visit, Visited};
-use crate::plain::{done, plainly};
+use crate::plain::{done, plain};
+use crate::visit::{Visit, Visited};
 use board::Board;
 use feed::Feed;
 use meaning::{Duty, Stop};
@@ -28,9 +29,9 @@ impl<'a, F: Feed> Visit<'a, F> {
         statement: Statement,
     ) -> Result<Visited, Stop>
         requires proper { statement_ok (vec_len self.now.sheet.now.tables.variables) (vec_len self.now.sheet.now.tables.expressions) self.now.duty.statement statement ≡ true }
-        requires ready { Ready self.now (held board.old) }
-        ensures visited { told (changed result) (held board.new) ≡ ruled F.Feed.readings self.now statement (held board.old) }
-        ensures done { IfOk result (λ v. v.done ≡ not (awaits F.Feed.readings self.now statement (held board.old))) }
+        requires ready { Ready self.now (work_of board.old) }
+        ensures visited { outcome_of (visit_changed result) (work_of board.new) ≡ ruled F.Feed.readings self.now statement (work_of board.old) }
+        ensures done { IfOk result (λ v. v.done ≡ not (awaits F.Feed.readings self.now statement (work_of board.old))) }
     {
         let duty = self.duty;
         match statement {
@@ -41,14 +42,14 @@ impl<'a, F: Feed> Visit<'a, F> {
             Statement::Is(x, e) => self.is_rule(board, memo, x, e),
             Statement::And(p, q) => done(self.and_rule(board, p, q)),
             Statement::If(e, p, q) => self.if_rule(board, memo, e, p, q),
-            Statement::Next(p) => done(self.on_and_carry(board, plainly(p, duty.span))),
+            Statement::Next(p) => done(self.on_and_carry(board, plain(p, duty.span))),
             Statement::Always(p) => self.always_rule(board, p),
-            Statement::Halt(e) => self.halt_rule(board, memo, e),
-            Statement::Len(e) => self.len_rule(board, memo, e),
-            Statement::Gets(x, e) => self.gets_rule(board, memo, x, e),
+            Statement::Halt(e) => self.halt_when_known(board, memo, e),
+            Statement::Len(e) => self.len_when_known(board, memo, e),
+            Statement::Gets(x, e) => self.gets_when_known(board, memo, x, e),
             Statement::Chop(p, q) => done(self.chop_rule(board, p, q)),
-            Statement::For(e, p) => self.for_rule(board, memo, e, p),
-            Statement::While(e, p) => self.while_rule(board, memo, e, p),
+            Statement::For(e, p) => self.for_when_known(board, memo, e, p),
+            Statement::While(e, p) => self.while_when_known(board, memo, e, p),
             Statement::Request(x) => done(self.request_rule(board, x)),
         }
     }
@@ -70,10 +71,10 @@ pub fn visit_duty<F: Feed>(
     state: u32,
     duty: Duty,
 ) -> Result<Visited, Stop>
-    requires lives { Lives (held board.old).spans duty.span }
-    requires fitted { (f : ℕ → ℕ → Maybe ℤ) (y : ℕ) → FitSays (under (sheet_of sheet.now) f) y ((held board.old).known y) }
-    ensures visited { told (changed result) (held board.new) ≡ visit (under (sheet_of sheet.now) (F.Feed.readings feed.now)) state duty (held board.old) }
-    ensures done { IfOk result (λ v. v.done ≡ not (waits (under (sheet_of sheet.now) (F.Feed.readings feed.now)) duty (held board.old))) }
+    requires present { Present (work_of board.old).spans duty.span }
+    requires fitted { (f : ℕ → ℕ → Maybe ℤ) (y : ℕ) → FitSays (under (content_of sheet.now) f) y ((work_of board.old).known y) }
+    ensures visited { outcome_of (visit_changed result) (work_of board.new) ≡ visit (under (content_of sheet.now) (F.Feed.readings feed.now)) state duty (work_of board.old) }
+    ensures done { IfOk result (λ v. v.done ≡ not (waits (under (content_of sheet.now) (F.Feed.readings feed.now)) duty (work_of board.old))) }
 {
     let Some(statement) = statement_of(sheet, duty.statement) else {
         return done(Ok(false));

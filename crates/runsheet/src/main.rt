@@ -4,14 +4,13 @@
 //     runsheet FILE    the sheet of this file
 #![tactic(auto)]
 
-use closing::MOST_CLOSING;
 use engine::{Engine, MOST_ASKED};
 use feed::Silent;
 use load::ENOUGH;
-use showing::show;
 use std::io::{Read, Write};
 use std::process::ExitCode;
 use std::{env, fs, io};
+use summary::{MOST_CLOSING, show};
 
 // The most bytes of a record's text.
 const RECORD: usize = 65_536;

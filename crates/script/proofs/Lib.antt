@@ -1,3 +1,3 @@
 -- Lemmas that the proofs of this crate use.
-mod Spelled
-mod Plain
+mod WordByWord
+mod CallsWithoutPath

@@ -3,8 +3,8 @@ use Rattle.std.specs.Prelude.{◌≡◌, ℕ, ◌≤◌, ◌↔◌, List, [], �
 use Rattle.std.specs.Fmt.{signed_decimal}
 use Rattle.text.specs.Cut.{parted}
 use Rattle.feed.specs.declared.list.Reading.{Reading as Readings}
-use Rattle.script.specs.declared.calls.Call.{Call}
-use Rattle.script.specs.declared.calls.Call.TheVariants.{Sheet, Table, Text, Reading, Silence, Begin, Advance, Look, Report, Abandon, Record, Name}
+use Rattle.script.specs.declared.call.Call.{Call}
+use Rattle.script.specs.declared.call.Call.TheVariants.{Sheet, Table, Text, Reading, Silence, Begin, Advance, Look, Report, Abandon, Record, Name}
 
 -- the words of a record of readings: STATE, VARIABLE and NUMBER
 abbrev pub reading_words : Readings → List (List ℕ)

@@ -1,6 +1,6 @@
 // Reads a record of a list of readings.
 ghost use Rattle.std.specs.Prelude.{◌≡◌};
-ghost use Rattle.text.specs.Cut.{left};
+ghost use Rattle.text.specs.Cut.{pieces_from};
 ghost use Rattle.script.specs.Spelling.{ReadsReading};
 ghost use Rattle.script.specs.Words.{reading_in};
 
@@ -9,7 +9,7 @@ use text::{MOST, Reader, natural, number};
 
 // The record that the words which are left spell.
 pub(crate) fn reading_left(words: &mut Reader<'_>) -> Option<Reading>
-    ensures { result ≡ reading_in (left 32 words.old.text.now words.old.place) }
+    ensures { result ≡ reading_in (pieces_from 32 words.old.text.now words.old.place) }
 {
     let state = natural(words.word()?, MOST)?;
     let variable = natural(words.word()?, MOST)?;

@@ -7,7 +7,7 @@ use Rattle.std.specs.Cmp.Lexicographic.{slice_cmp}
 use Rattle.std.specs.declared.cmp.Ordering.{Ordering}
 use Rattle.std.specs.declared.cmp.Ordering.TheVariants.{Less, Equal, Greater}
 use Rattle.std.specs.Ordering.{ordering_reverse, ordering_then, is_eq, is_lt, MatchOrdering, nat_cmp, on}
-use Rattle.search.specs.Order.{below_by, same_by, Total}
+use Rattle.search.specs.Order.{below_by, same_by, TotalOrder}
 
 -- an answer is one of the three, and the third is the first with the items exchanged
 three : (r s : Ordering) → r ≡ ordering_reverse s → (r ≡ Less) ⊎ ((r ≡ Equal) ⊎ (s ≡ Less))
@@ -18,7 +18,7 @@ three Greater Equal e = absurd (true≢false (sym (ap is_eq e)))
 three Greater Greater e = absurd (true≢false (sym (ap is_lt e)))
 
 -- a comparison that is a total order makes up one
-pub total_of : {X : Type 0} (c : X → X → Ordering) → IsTotalOrder c → Total (below_by c) (same_by c)
+pub total_of : {X : Type 0} (c : X → X → Ordering) → IsTotalOrder c → TotalOrder (below_by c) (same_by c)
 total_of c t = record {
   one = λ x y. three (c x y) (c y x) (t.antisymm x y);
   apart = λ x y p q. true≢false (sym (ap is_eq (sym p ∙ q)));
@@ -38,7 +38,7 @@ lies_of c t x y Equal e = sym e
 lies_of c t x y Greater e = t.antisymm y x ∙ ap ordering_reverse (sym e)
 
 -- items that are ordered by a part of them
-pub total_on : {X Y : Type 0} (c : Y → Y → Ordering) (f : X → Y) → IsTotalOrder c → Total (below_by (on f c)) (same_by (on f c))
+pub total_on : {X Y : Type 0} (c : Y → Y → Ordering) (f : X → Y) → IsTotalOrder c → TotalOrder (below_by (on f c)) (same_by (on f c))
 total_on c f t = total_of (on f c) (on_total f t)
 
 -- numbers that compare as the same are equal
@@ -71,9 +71,9 @@ pub bytes_refl : (a : List ℕ) → same_by (slice_cmp nat_cmp) a a
 bytes_refl = tied_itself nat_list_cmp_total
 
 -- the order of numbers
-pub total_number : Total (below_by nat_cmp) (same_by nat_cmp)
+pub total_number : TotalOrder (below_by nat_cmp) (same_by nat_cmp)
 total_number = total_of nat_cmp nat_cmp_total
 
 -- the order of byte strings
-pub total_bytes : Total (below_by (slice_cmp nat_cmp)) (same_by (slice_cmp nat_cmp))
+pub total_bytes : TotalOrder (below_by (slice_cmp nat_cmp)) (same_by (slice_cmp nat_cmp))
 total_bytes = total_of (slice_cmp nat_cmp) nat_list_cmp_total

@@ -12,7 +12,7 @@ abbrev pub same_by : {X : Type 0} → (X → X → Ordering) → X → X → Typ
 same_by c x y = c x y ≡ Equal
 
 -- the two relations make up a total order
-pub record Total {X : Type 0} (below same : X → X → Type 0) : Type 0 where
+pub record TotalOrder {X : Type 0} (below same : X → X → Type 0) : Type 0 where
   -- of two items one is below, the same as, or above the other
   pub one : (x y : X) → below x y ⊎ (same x y ⊎ below y x)
   -- an item is not below one that is the same

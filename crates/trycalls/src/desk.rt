@@ -1,10 +1,9 @@
 // What the calls of a script do.
 use crate::files::read_file;
-use answers::Answer;
 use engine::Engine;
 use feed::{ListFeed, Reading};
 use record::Recorder;
-use script::Call;
+use script::{Answer, Call};
 use std::io;
 use std::io::Write;
 

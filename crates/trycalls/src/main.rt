@@ -7,10 +7,9 @@ mod input;
 
 use crate::desk::{Desk, Memory};
 use crate::input::Lines;
-use record::{Recorder, TableRecorder};
+use record::{Recorder, TableRecorder, TextRecorder};
 use script::read_call;
 use std::io;
-use written::TextRecorder;
 
 // The memory of the first recorder, as that of `table 1000`.
 const START: Memory = Memory::Numbers(1000);

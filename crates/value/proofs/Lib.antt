@@ -1,6 +1,6 @@
 -- The lemmas: on sizes of numbers, on tables, on the numbers of expressions, on telling one at once, and on working one out.
 pub mod Magnitudes
-pub mod Tables
+pub mod EntryByEntry
 pub mod Numbers
-pub mod Telling
-pub mod Working
+pub mod AtOnce
+pub mod WorkingOut

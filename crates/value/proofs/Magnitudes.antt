@@ -2,8 +2,8 @@
 use Rattle.std.proofs.Common.{◌≡◌, ℕ, zero, suc, ◌+◌, ◌*◌, ◌≤◌, Bool, true, false, ℤ, pos, negsuc, ◌+ℤ◌, ◌-ℤ◌, ◌*ℤ◌, neg_ℤ, nat_abs, refl, ap, ◌∙◌, mul-le-mul, arith, w64, SFits}
 use lib.IntN.{pos-*ℤ-pos, pos-*ℤ-negsuc, negsuc-*ℤ-pos, negsuc-*ℤ-negsuc}
 use Rattle.std.proofs.lemmas.Int.{ints}
-use Rattle.sheet.specs.declared.parts.Operator.{Operator}
-use Rattle.sheet.specs.declared.parts.Operator.TheVariants.{Add, Sub, Mul, Eq, Lt, Both, Either}
+use Rattle.sheet.specs.declared.elements.Operator.{Operator}
+use Rattle.sheet.specs.declared.elements.Operator.TheVariants.{Add, Sub, Mul, Eq, Lt, Both, Either}
 use Rattle.sheet.specs.Sizes.{size_of}
 use Rattle.value.specs.Values.{bit, apply}
 

@@ -1,8 +1,8 @@
 // What the parts of an expression make of the numbers that are known.
 ghost use Rattle.std.specs.Prelude.{◌≡◌, ◌≤◌, unsigned_abs};
-ghost use Rattle.value.specs.Values.{apply, denied, in_range, last_bit, ranged};
+ghost use Rattle.value.specs.Values.{apply, negation, in_range, last_bit, within_range};
 
-use crate::parts::End;
+use crate::end::End;
 use sheet::{Operator, Variable};
 
 // What an operator makes of two numbers. They are small enough that nothing overflows.
@@ -23,7 +23,7 @@ pub(crate) fn applied(operator: Operator, x: i64, y: i64) -> i64
 
 // 1 for 0 and 0 for any other number.
 pub(crate) fn negated(x: i64) -> i64
-    ensures { result ≡ denied x }
+    ensures { result ≡ negation x }
 {
     i64::from(x == 0)
 }
@@ -47,8 +47,8 @@ pub fn in_range(variable: Variable, number: i64) -> bool
 }
 
 // The value, where there is one and it lies in the variable's range.
-pub(crate) fn fitting(variable: Variable, value: Option<i64>) -> Option<i64>
-    ensures { result ≡ ranged variable value }
+pub(crate) fn within_range(variable: Variable, value: Option<i64>) -> Option<i64>
+    ensures { result ≡ within_range variable value }
 {
     value.filter(|z| in_range(variable, *z))
 }

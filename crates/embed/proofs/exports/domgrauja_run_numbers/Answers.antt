@@ -1,13 +1,13 @@
 -- The run's work under the readings that are listed, or nothing.
 use Rattle.std.proofs.Common.{List, ap, ◌∙◌, subst}
 use Rattle.feed.specs.declared.list.Reading.{Reading}
-use Rattle.feed.specs.Lists.{listed}
-use Rattle.verdict.specs.Verdict.{verdict}
-use Rattle.engine.specs.Held.{meant}
-use Rattle.showing.specs.Whole.{InNumbers}
-use Rattle.embed.specs.declared.answer.Answer.{Answer}
+use Rattle.feed.specs.Lists.{list_reads}
+use Rattle.load.specs.Parsing.{parse_sheet}
+use Rattle.engine.specs.Meant.{meant}
+use Rattle.summary.specs.Shown.{InNumbers}
+use Rattle.embed.specs.declared.answer.AnswerNumbers.{AnswerNumbers}
 use Rattle.embed.specs.Answers.{RunsInNumbers, work}
-use Rattle.embed.proofs.Doing.{lacks, recorded_states}
+use Rattle.embed.proofs.ExportAnswers.{lacks, recorded_states}
 use Rattle.embed.proofs.exports.domgrauja_run_numbers.Goals as goal
 
 pub returns-in-Ok : goal.returns-in-Ok
@@ -16,9 +16,9 @@ returns-in-Ok c =
     let x = c.record_numbers-width.result.1 in
     let b = meant c.in-Ok.engine in
     let d = meant c.record_numbers-width.new.engine in
-    let run = subst (λ (l : List Reading). InNumbers (verdict c.args.text.now) (listed l) c.args.states w c.args.numbers.now c.record_numbers-width.new.numbers x b d) c.new-feed.ensures c.record_numbers-width.ensures in
-    let count = ap (λ (a : Answer). a.states) c.of.ensures ∙ recorded_states _ (listed c.args.readings.now) c.args.states _ 1 _ x run.recorder b d run.come in
-    work (x, b, d, run, count, ap (λ (a : Answer). record a { width = w }) c.of.ensures)
+    let run = subst (λ (l : List Reading). InNumbers (parse_sheet c.args.text.now) (list_reads l) c.args.states w c.args.numbers.now c.record_numbers-width.new.numbers x b d) c.new-feed.ensures c.record_numbers-width.ensures in
+    let count = ap (λ (a : AnswerNumbers). a.states) c.of.ensures ∙ recorded_states _ (list_reads c.args.readings.now) c.args.states _ 1 _ x run.recorder b d run.come in
+    work (x, b, d, run, count, ap (λ (a : AnswerNumbers). record a { width = w }) c.of.ensures)
 
 pub returns-in-Err : goal.returns-in-Err
-returns-in-Err c = lacks (RunsInNumbers (verdict c.args.text.now) (listed c.args.readings.now) c.args.states c.args.numbers.now) c.args.numbers.now c.lacking.result c.lacking.ensures
+returns-in-Err c = lacks (RunsInNumbers (parse_sheet c.args.text.now) (list_reads c.args.readings.now) c.args.states c.args.numbers.now) c.args.numbers.now c.lacking.result c.lacking.ensures

@@ -5,7 +5,7 @@ use Rattle.std.specs.Option.{option_map}
 use Rattle.std.proofs.lemmas.List.{get_or_read}
 use Rattle.std.proofs.lemmas.List.Sorted.{IsPartitionedBy-ltb, IsPartitionPoint-from_clause}
 use Rattle.feed.specs.declared.list.Reading.{Reading}
-use Rattle.feed.specs.Lists.{first, matches, rank, ranked}
+use Rattle.feed.specs.Lists.{first_reading, matches, rank, ranked}
 use Rattle.feed.proofs.Halves.{halves_met, halves_missed, matches_rank}
 use Rattle.feed.proofs.list.by_halves.Goals as goal
 use Rattle.feed.proofs.list.by_halves.Goals.{After-partition_point-place}
@@ -20,7 +20,7 @@ point c =
 
 -- where the element there has another rank, or there is none, the list has no record for the variable and the state
 missed : (c : After-partition_point-place) → let i = c.partition_point-place.result in let xs = c.args.list.now in
-    ((d : Reading) → i < length xs → rank (get_or xs i d) ≡ ranked c.args.variable c.args.state → ⊥) → first xs c.args.variable c.args.state ≡ None
+    ((d : Reading) → i < length xs → rank (get_or xs i d) ≡ ranked c.args.variable c.args.state → ⊥) → first_reading xs c.args.variable c.args.state ≡ None
 missed c other =
     let v = c.args.variable in
     let k = c.args.state in

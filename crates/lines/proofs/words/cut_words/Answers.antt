@@ -1,6 +1,6 @@
 use Rattle.std.proofs.Common.{drop, sym, ◌∙◌}
-use Rattle.text.proofs.Cuts.{left_in}
-use Rattle.lines.proofs.Cutting.{parted_some}
+use Rattle.text.proofs.CutsFit.{left_in}
+use Rattle.lines.proofs.KeyAndWords.{parted_some}
 use Rattle.lines.proofs.words.cut_words.Goals as goal
 
 pub returns-in_err-a : goal.returns-in_err-a

@@ -1,19 +1,19 @@
 use Rattle.std.proofs.Common.{ℕ, List, sym, refl, ap, ◌∙◌, subst, arith, Bor}
 use Rattle.load.specs.Naming.{LineAt}
-use Rattle.text.specs.Cut.{left, parted}
-use Rattle.text.proofs.Cuts.{left_in}
-use Rattle.load.proofs.Walk.{none_left, line_came, line_last}
+use Rattle.text.specs.Cut.{pieces_from, parted}
+use Rattle.text.proofs.CutsFit.{left_in}
+use Rattle.load.proofs.LineWalk.{none_left, line_came, line_last}
 use Rattle.load.proofs.names.line_at.Goals as goal
 
 pub loop-i-init : goal.loop-i-init
 loop-i-init c =
     let t = c.args.text.now in
-    (refl, ap (left 10 t) c.new-reader.ensures.place ∙ left_in 10 t 0 (omega arith), c.new-reader.ensures.place)
+    (refl, ap (pieces_from 10 t) c.new-reader.ensures.place ∙ left_in 10 t 0 (omega arith), c.new-reader.ensures.place)
 
 pub returns-in_err-line : goal.returns-in_err-line
 returns-in_err-line c =
     let e = c.loop-i.invariant.0 ∙ c.new-reader.ensures.text in
-    let none = ap (λ (r : Bor (List ℕ)). left 10 r.now c.loop-i.reader.place) (sym e) ∙ c.in_err-line.ensures.cases.0 in
+    let none = ap (λ (r : Bor (List ℕ)). pieces_from 10 r.now c.loop-i.reader.place) (sym e) ∙ c.in_err-line.ensures.cases.0 in
     let few = none_left (parted 10 c.args.text.now) c.loop-i._i c.args.k (sym c.loop-i.invariant.1 ∙ none) (omega arith) in
     subst (LineAt c.args.text c.args.k) (sym c.from_residual.ensures) few
 

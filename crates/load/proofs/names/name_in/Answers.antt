@@ -1,6 +1,6 @@
 use Rattle.std.proofs.Common.{refl, rules}
 use Rattle.std.proofs.lemmas.List.{take_rest}
-use Rattle.load.proofs.Walk.{name_word}
+use Rattle.load.proofs.LineWalk.{name_word}
 use Rattle.load.proofs.names.name_in.Goals as goal
 
 pub returns : goal.returns

@@ -1,7 +1,7 @@
 use Rattle.std.proofs.Common.{refl}
 use Rattle.meaning.proofs.laws.first_duty.Goals as goal
 use Rattle.meaning.proofs.Theorems.{settling_ends, finished_is_the_one, open_begins_all, contradiction_leaves_none}
-use Rattle.meaning.proofs.Alike.{equal_runs_agree}
+use Rattle.meaning.proofs.EqualRuns.{equal_runs_agree}
 use Rattle.meaning.proofs.OrderRuns.{order_makes_no_difference}
 
 pub returns : goal.returns

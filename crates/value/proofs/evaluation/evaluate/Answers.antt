@@ -1,9 +1,9 @@
 -- What is told has all that is promised, and past the end the number is 0.
 use Rattle.std.proofs.Common.{◌≤◌, length, pos, Some, vec_items, sym, ap, ◌∙◌, arith}
 use Rattle.value.specs.Values.{known, valued}
-use Rattle.value.specs.Claims.{worth}
-use Rattle.value.proofs.Tables.{table_past}
-use Rattle.value.proofs.Working.{worth_within, worth_total}
+use Rattle.value.specs.Evaluating.{partial_value}
+use Rattle.value.proofs.EntryByEntry.{table_past}
+use Rattle.value.proofs.WorkingOut.{worth_within, worth_total}
 use Rattle.value.proofs.evaluation.evaluate.Goals as goal
 
 pub returns-then-place-len : goal.returns-then-place-len
@@ -21,5 +21,5 @@ returns c =
     let end = c.args.end in
     let i = c.args.number in
     let r = c.worked.result in
-    let a = c.worked.ensures.answer ∙ ap (worth s vs end) c.from-place.ensures in
+    let a = c.worked.ensures.answer ∙ ap (partial_value s vs end) c.from-place.ensures in
     record { answer = a; total = worth_total s vs end i r a; bound = worth_within s vs end i r a }

@@ -1,7 +1,7 @@
 -- The product of two small numbers fits.
 use Rattle.std.proofs.Common.{sym, ap, arith}
 use Rattle.std.proofs.lemmas.Int.{to_z-of_z}
-use Rattle.sheet.specs.declared.parts.Operator.{Operator}
+use Rattle.sheet.specs.declared.elements.Operator.{Operator}
 use Rattle.value.specs.Values.{apply}
 use Rattle.value.proofs.Magnitudes.{abs_fits, product_fits}
 use Rattle.value.proofs.operate.applied.Goals as goal

@@ -3,9 +3,9 @@ use Rattle.std.proofs.Common.{rules, vec_items, ◌∙◌}
 use Rattle.std.proofs.lemmas.Iterator.{YieldsList-from_slice}
 use Rattle.std.proofs.lemmas.Iterator.Search.{all_from_yields_List}
 use Rattle.board.specs.Store.{ends_of}
-use Rattle.board.proofs.Alike.{ended_row, ended_rows}
+use Rattle.board.proofs.DerivedEqual.{ended_row, ended_rows}
 use Rattle.board.proofs.Rows.{rising_of}
-use Rattle.board.proofs.Turned.{own_end}
+use Rattle.board.proofs.NextState.{own_end}
 use Rattle.board.proofs.board.Board.all_ended.Goals as goal
 
 pub returns : goal.returns

@@ -1,9 +1,9 @@
 -- The tables are those of state 0.
 use Rattle.std.proofs.Common.{List, [], ◌∷◌, ◌++◌, ap, ◌∙◌}
-use Rattle.meaning.specs.declared.parts.Duty.{Duty}
-use Rattle.board.specs.declared.parts.Row.{Row}
+use Rattle.meaning.specs.declared.duties.Duty.{Duty}
+use Rattle.board.specs.declared.row.Row.{Row}
 use Rattle.board.proofs.Rows.{no_row}
-use Rattle.board.proofs.Turned.{begin_means}
+use Rattle.board.proofs.NextState.{begin_means}
 use Rattle.board.proofs.board.Board.begin.Goals as goal
 
 pub returns : goal.returns

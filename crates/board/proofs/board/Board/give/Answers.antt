@@ -1,13 +1,14 @@
 -- A number that is new is written, and is in its variable's range.
 use Rattle.std.proofs.Common.{◌≡◌, ◌∙◌, to_z, of_z, w64, sym, arith, rules}
 use Rattle.meaning.specs.Intervals.{under}
-use Rattle.board.specs.Held.{store, sheet_of}
-use Rattle.board.proofs.Finds.{gives_new}
+use Rattle.board.specs.Work.{store}
+use Rattle.board.proofs.Searching.{gives_new}
 use Rattle.board.proofs.board.Board.give.Goals as goal
+use Rattle.sheet.specs.ContentOf.{content_of}
 
 pub returns-in-None : goal.returns-in-None
 returns-in-None c f =
     let s = c.args.sheet.now in
     let number : to_z w64 (of_z w64 c.args.number) ≡ c.args.number = search rules in
-    gives_new (under (sheet_of s) f) (store c.args.self.now) c.args.place c.args.variable _ _ _ c.args.number _ number c.from-x.ensures (omega arith) c.in-None.is
+    gives_new (under (content_of s) f) (store c.args.self.now) c.args.place c.args.variable _ _ _ c.args.number _ number c.from-x.ensures (omega arith) c.in-None.is
     c.index.ensures (omega arith) s.tables.variables.ok.0 (sym c.in_range.ensures ∙ c.if-in_range.true)

@@ -1,7 +1,7 @@
 -- No row of the bucket stands at its place, or the rows are asked.
 use Rattle.std.proofs.Common.{sym, ap, ◌∙◌, vec_items}
 use Rattle.board.specs.Buckets.{row_in, is_in}
-use Rattle.board.proofs.Listed.{none_opened, at_place, past_end, in_alike}
+use Rattle.board.proofs.PlaceTables.{none_opened, at_place, past_end, in_alike}
 use Rattle.board.proofs.board.Board.has_opened.Goals as goal
 
 pub returns-in-None : goal.returns-in-None

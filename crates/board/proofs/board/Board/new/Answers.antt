@@ -1,5 +1,5 @@
 -- The tables are empty.
-use Rattle.board.proofs.Turned.{new_means}
+use Rattle.board.proofs.NextState.{new_means}
 use Rattle.board.proofs.board.Board.new.Goals as goal
 
 pub returns : goal.returns

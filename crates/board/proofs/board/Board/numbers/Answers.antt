@@ -1,6 +1,6 @@
 -- Each number is written at its place.
 use Rattle.std.proofs.Common.{get_or, pos, None, unwrap_or, arith}
-use Rattle.board.proofs.Shown.{as_counted}
+use Rattle.board.proofs.LeftOpen.{as_counted}
 use Rattle.board.proofs.board.Board.numbers.Goals as goal
 
 pub returns : goal.returns

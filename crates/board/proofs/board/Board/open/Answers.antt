@@ -1,7 +1,7 @@
 -- A span is opened where there is none so and both lists have room.
 use Rattle.std.proofs.Common.{true, sym, ap, ◌∙◌, inl, inr, arith}
 use Rattle.meaning.specs.Work.{Work, goes}
-use Rattle.board.specs.Held.{store}
+use Rattle.board.specs.Work.{store}
 use Rattle.board.proofs.Rows.{open_full, open_new}
 use Rattle.board.proofs.board.Board.open.Goals as goal
 use Rattle.board.proofs.board.Board.open.Goals.{then-len-ge-MOST_SPANS-via-then-len-ge-MOST_SPANS, then-len-ge-MOST_SPANS-via-else-len-ge-MOST_SPANS+then-len-ge-MOST_DUTIES}

@@ -1,10 +1,10 @@
 -- A new row and a new duty are a new span.
 use Rattle.std.proofs.Common.{◌+◌, List, vec_items, refl, Some, sym, ap, ◌∙◌, arith}
-use Rattle.board.specs.declared.parts.Row.{Row}
-use Rattle.board.specs.Held.{store}
+use Rattle.board.specs.declared.row.Row.{Row}
+use Rattle.board.specs.Work.{store}
 use Rattle.board.specs.Store.{rising}
 use Rattle.board.specs.Buckets.{row_in}
-use Rattle.board.proofs.Listed.{listed-push}
+use Rattle.board.proofs.PlaceTables.{listed-push}
 use Rattle.board.proofs.Rows.{new_row, rising-push, push_means}
 use Rattle.board.proofs.board.Board.push_span.Goals as goal
 

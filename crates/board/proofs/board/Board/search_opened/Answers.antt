@@ -2,7 +2,7 @@
 use Rattle.std.proofs.Common.{rules, vec_items, ◌∙◌}
 use Rattle.std.proofs.lemmas.Iterator.{YieldsList-from_slice}
 use Rattle.std.proofs.lemmas.Iterator.Search.{any_from_yields_List}
-use Rattle.board.proofs.Alike.{opened_row, opened_rows}
+use Rattle.board.proofs.DerivedEqual.{opened_row, opened_rows}
 use Rattle.board.proofs.board.Board.search_opened.Goals as goal
 
 pub returns : goal.returns

@@ -1,8 +1,8 @@
 -- A row with another end is a span with that end.
 use Rattle.std.proofs.Common.{vec_items, vec_len}
-use Rattle.board.specs.Held.{store}
+use Rattle.board.specs.Work.{store}
 use Rattle.board.proofs.Rows.{write_rising, write_means, placed_serial}
-use Rattle.board.proofs.Listed.{listed-set}
+use Rattle.board.proofs.PlaceTables.{listed-set}
 use Rattle.board.proofs.board.Board.set_end.Goals as goal
 
 pub invariant_of-self : goal.invariant_of-self

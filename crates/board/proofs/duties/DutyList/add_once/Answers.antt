@@ -3,7 +3,7 @@ use Rattle.std.proofs.Common.{sym, ap, ◌∙◌, map, vec_items}
 use Rattle.std.proofs.lemmas.Bool.{cond-true}
 use Rattle.meaning.specs.Work.{has_duty}
 use Rattle.board.specs.Buckets.{duty_in, is_in, place_after}
-use Rattle.board.proofs.Listed.{no_duty, met, past_end}
+use Rattle.board.proofs.PlaceTables.{no_duty, met, past_end}
 use Rattle.board.proofs.duties.DutyList.add_once.Goals as goal
 
 pub add_new-requires-clause-absent : goal.add_new-requires-clause-absent

@@ -1,6 +1,6 @@
 -- The duty that comes has its place.
 use Rattle.std.proofs.Common.{vec_items, arith}
-use Rattle.board.proofs.Listed.{listed-come}
+use Rattle.board.proofs.PlaceTables.{listed-come}
 use Rattle.board.proofs.duties.DutyList.push_in.Goals as goal
 
 pub invariant_of-self : goal.invariant_of-self

@@ -1,7 +1,7 @@
 -- The search finds a place exactly where the list has the duty.
 use Rattle.std.proofs.Common.{◌∙◌, ap}
 use Rattle.meaning.specs.Work.{has_duty}
-use Rattle.board.proofs.Finds.{found_has}
+use Rattle.board.proofs.Searching.{found_has}
 use Rattle.board.proofs.duties.DutyList.search.Goals as goal
 
 pub returns : goal.returns

@@ -1,6 +1,6 @@
 -- The law of runs is proved from what the calls promise, and the law of advances from that of settling.
-use Rattle.calls.proofs.Advances.{advances_agree}
-use Rattle.engine.proofs.Runs.{law_of_runs}
+use Rattle.calls.proofs.AdvancesAlike.{advances_agree}
+use Rattle.engine.proofs.LawOfRuns.{law_of_runs}
 use Rattle.engine.proofs.engine.Engine.new.Goals as goal
 
 pub returns-in_err-loader-clause-runs : goal.returns-in_err-loader-clause-runs

@@ -1,5 +1,5 @@
 -- There are as many rows as were counted.
-use Rattle.record.proofs.Tables.{length_rows}
+use Rattle.record.proofs.TableRows.{length_rows}
 use Rattle.record.proofs.table.TableRecorderRecorder.count.Goals as goal
 
 pub returns : goal.returns

@@ -1,6 +1,6 @@
 -- A value that is there lies in its row; else the state or the variable is not there.
 use Rattle.std.proofs.Common.{length, rules}
-use Rattle.record.proofs.Tables.{rows_fit, look_inside, look_past, look_wide}
+use Rattle.record.proofs.TableRows.{rows_fit, look_inside, look_past, look_wide}
 use Rattle.record.proofs.table.TableRecorderRecorder.look.Goals as goal
 
 pub returns-then-variable-self : goal.returns-then-variable-self

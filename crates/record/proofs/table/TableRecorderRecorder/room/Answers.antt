@@ -1,6 +1,6 @@
 -- The recorder's own fact says that its rows and its room make up the capacity.
 use Rattle.std.proofs.Common.{arith}
-use Rattle.record.proofs.Tables.{length_rows}
+use Rattle.record.proofs.TableRows.{length_rows}
 use Rattle.record.proofs.table.TableRecorderRecorder.room.Goals as goal
 
 pub returns-clause-whole : goal.returns-clause-whole

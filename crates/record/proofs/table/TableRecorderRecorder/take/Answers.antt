@@ -1,6 +1,6 @@
 -- The state is one row more.
 use Rattle.std.proofs.Common.{◌+◌, ◌-◌, ◌*◌, length, arith, rules}
-use Rattle.record.proofs.Tables.{next_fits, rows_more}
+use Rattle.record.proofs.TableRows.{next_fits, rows_more}
 use Rattle.record.proofs.table.TableRecorderRecorder.take.Goals as goal
 
 pub returns-clause-listed : goal.returns-clause-listed

@@ -1,2 +1,0 @@
--- What the contracts of this crate say: the line of an answer.
-pub mod Lines

@@ -1,2 +1,0 @@
--- Lemmas that the proofs of this crate use.
-mod Lengths

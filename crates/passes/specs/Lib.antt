@@ -1,4 +1,0 @@
--- What the contracts of this crate say: what a skip means, the visits to a list, the setting of a pass, and what settling answers.
-pub mod Skipped
-pub mod Walks
-pub mod Passing

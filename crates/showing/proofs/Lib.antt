@@ -1,2 +1,0 @@
--- What comes of a text, by what its calls promise.
-mod Coming

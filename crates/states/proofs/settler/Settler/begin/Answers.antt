@@ -1,9 +1,0 @@
--- The tables are those of state 0.
-use Rattle.std.proofs.Common.{arith, ap}
-use Rattle.meaning.specs.Work.{Work}
-use Rattle.board.specs.Held.{store}
-use Rattle.states.proofs.Readying.{first_ready}
-use Rattle.states.proofs.settler.Settler.begin.Goals as goal
-
-pub invariant_of-self : goal.invariant_of-self
-invariant_of-self c = record { ready = first_ready c.args.run (store c.begin.new.self) c.begin.ensures; young = omega (arith, ap (λ (w : Work). w.next) c.begin.ensures) }

@@ -1,9 +1,0 @@
--- The tables are empty.
-use Rattle.std.proofs.Common.{arith, ap}
-use Rattle.meaning.specs.Work.{Work}
-use Rattle.board.specs.Held.{store}
-use Rattle.states.proofs.Readying.{new_ready}
-use Rattle.states.proofs.settler.Settler.new.Goals as goal
-
-pub invariant_of-result : goal.invariant_of-result
-invariant_of-result c = record { ready = new_ready (store c.in_ok-board.board) c.in_ok-board.ensures; young = omega (arith, ap (λ (w : Work). w.next) c.in_ok-board.ensures) }

@@ -1,3 +1,0 @@
--- What the contracts of this crate say: tables in order for a state to begin, and what a step comes to.
-pub mod Ready
-pub mod Stepped

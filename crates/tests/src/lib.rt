@@ -1,0 +1,38 @@
+#![tactic(auto)]
+
+// Tests of loading, of evaluation, of recorders and feeds, of tables of examples, and of what is read and written, most at the edges of their rules.
+// They stand apart, so that no other crate is proved twice.
+#[cfg(test)]
+mod answer_texts;
+#[cfg(test)]
+mod building;
+#[cfg(test)]
+mod closings;
+#[cfg(test)]
+mod example_tables;
+#[cfg(test)]
+mod feeds;
+#[cfg(test)]
+mod holding;
+#[cfg(test)]
+mod keys;
+#[cfg(test)]
+mod numbers;
+#[cfg(test)]
+mod operators;
+#[cfg(test)]
+mod reading;
+#[cfg(test)]
+mod recorders;
+#[cfg(test)]
+mod scripts;
+#[cfg(test)]
+mod searching;
+#[cfg(test)]
+mod stops;
+#[cfg(test)]
+mod tables;
+#[cfg(test)]
+mod texts;
+#[cfg(test)]
+mod words;

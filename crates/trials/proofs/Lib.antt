@@ -1,0 +1,3 @@
+pub mod PlayedRuns
+pub mod PlayedIsTrue
+pub mod AllTrials

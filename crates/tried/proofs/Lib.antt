@@ -1,3 +1,0 @@
-pub mod Playing
-pub mod Sound
-pub mod All

@@ -1,3 +1,0 @@
-pub mod Verdict
-pub mod Told
-pub mod Law

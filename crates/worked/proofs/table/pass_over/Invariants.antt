@@ -1,6 +1,0 @@
--- The text stays.
-use Rattle.std.proofs.Common.{◌≡◌}
-use Rattle.worked.proofs.table.pass_over.Given as goal
-
-abbrev pub invariant-loop : goal.invariant-loop
-invariant-loop l = l.reader.text ≡ l.initial.reader.text
