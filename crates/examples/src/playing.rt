@@ -1,6 +1,6 @@
 // Runs worked sheets.
-use crate::bench::Bench;
 use crate::differences::{show_both, tell};
+use crate::testbed::Testbed;
 use cases::{WorkedSheet, reading_of};
 use engine::{Ending, Engine, MOST_ASKED, NotAdvanced, Progress, Report};
 use feed::{Feed, ListFeed};
@@ -14,7 +14,7 @@ use summary::{Closing, MOST_CLOSING, closing_lines};
 // Runs a worked sheet, and compares its record, its closing lines and the report. Says whether all are as expected.
 pub fn play(
     rt: &HostRuntime,
-    bench: &mut Bench,
+    testbed: &mut Testbed,
     name: &[u8],
     sheet: &WorkedSheet<'_>,
 ) -> io::Result<bool> {
@@ -24,8 +24,8 @@ pub fn play(
             readings.push(reading)?;
         }
     }
-    let engine = &mut bench.engine;
-    let mut recorder = TableRecorder::new(&mut bench.numbers);
+    let engine = &mut testbed.engine;
+    let mut recorder = TableRecorder::new(&mut testbed.numbers);
     let came = run(
         engine,
         sheet.sheet,

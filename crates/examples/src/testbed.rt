@@ -11,7 +11,7 @@ const RECORD: usize = 65_536;
 
 // A loader and an engine, the memory of both recorders, and the counts of examples.
 #[derive(Drop)]
-pub struct Bench {
+pub struct Testbed {
     pub loader: Loader,
     pub engine: Engine,
     pub numbers: Vec<i64>,
@@ -22,10 +22,10 @@ pub struct Bench {
     pub good: u64,
 }
 
-impl Bench {
+impl Testbed {
     // No example was tried yet.
-    pub fn new(rt: &HostRuntime) -> io::Result<Bench> {
-        Ok(Bench {
+    pub fn new(rt: &HostRuntime) -> io::Result<Testbed> {
+        Ok(Testbed {
             loader: Loader::new(rt.alloc())?,
             engine: Engine::new(rt.alloc())?,
             numbers: vec![in rt.alloc(); 0; NUMBERS]?,
