@@ -89,15 +89,15 @@ write_means m i n s r e p k q b =
     ∙ ap (λ (x : ℕ). with_end e x (work m)) q.1
 
 -- a span that runs has a place
-lives_past : (r : Row) (l : List Row) (s : ℕ) → (r.span.serial ≡ s → ⊥) → Present (map span_of (r ∷ l)) s → Present (map span_of l) s
-lives_past r l s n h = by h.inside
+present_past : (r : Row) (l : List Row) (s : ℕ) → (r.span.serial ≡ s → ⊥) → Present (map span_of (r ∷ l)) s → Present (map span_of l) s
+present_past r l s n h = by h.inside
   where
     by : h.span ∈ (r.span ∷ map span_of l) → Present (map span_of l) s
     by (here e) = absurd (n (sym (ap (λ t. t.serial) e) ∙ h.named))
     by (there q) = record { span = h.span; inside = q; named = h.named }
 
-lives_none : (s : ℕ) → Present [] s → ⊥
-lives_none s h = elim h.inside [ ]
+present_none : (s : ℕ) → Present [] s → ⊥
+present_none s h = elim h.inside [ ]
 
 pub placed_serial : (l : List Row) (s i : ℕ) → position (has_serial s) l ≡ Some i → HasSerial l i s
 placed_serial l s i p = let f = position-Some (has_serial s) l i no_row p in (f.0, eqb-true (get_or l i no_row).span.serial s f.1)
@@ -148,13 +148,13 @@ pub unknown_end : (l : List Row) (s : ℕ) → position (has_serial s) l ≡ Non
 unknown_end l s p = unknown_from l s 0 (sym (position_from-zero (has_serial s) l) ∙ p)
 
 none_from : (l : List Row) (s k : ℕ) → position_from (has_serial s) k l ≡ None → Present (map span_of l) s → ⊥
-none_from [] s k p h = lives_none s h
+none_from [] s k p h = present_none s h
 none_from (r ∷ l) s k p h = by (eqb r.span.serial s) refl p (none_from l s (k + 1))
   where
     by : (b : Bool) → eqb r.span.serial s ≡ b → cond b (Some k) (position_from (has_serial s) (k + 1) l) ≡ None
         → (position_from (has_serial s) (k + 1) l ≡ None → Present (map span_of l) s → ⊥) → ⊥
     by true e p ih = none-some k (sym p)
-    by false e p ih = ih p (lives_past r l s (λ q. true≢false (sym (eq-eqb r.span.serial s q) ∙ e)) h)
+    by false e p ih = ih p (present_past r l s (λ q. true≢false (sym (eq-eqb r.span.serial s q) ∙ e)) h)
 
 -- where the search finds none, no such span runs
 pub unplaced : (l : List Row) (s : ℕ) → position (has_serial s) l ≡ None → Present (map span_of l) s → ⊥

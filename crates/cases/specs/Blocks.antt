@@ -85,15 +85,15 @@ KindStandsAt table (Loaded e) p q = LoadedStandsAt table e p q
 KindStandsAt table (Shown e) p q = ShownStandsAt table e p q
 KindStandsAt table (Worked e) p q = WorkedStandsAt table e p q
 
--- an example stands in a text from place p up to place q
-pub record StandsAt (text : List ℕ) (e : Example) (p q : ℕ) : Type 0 where
+-- an example stands in a table from place p up to place q
+pub record StandsAt (table : List ℕ) (e : Example) (p q : ℕ) : Type 0 where
   -- where what it is of begins
   pub at_kind : ℕ
   -- the first line has the name, behind the 8 bytes of `example=`
-  pub first : part_in (line_from text p) ≡ Name
-  pub name : e.name.now ≡ drop 8 (line_from text p)
+  pub first : part_in (line_from table p) ≡ Name
+  pub name : e.name.now ≡ drop 8 (line_from table p)
   -- the formula stands between that line and what the example is of
-  pub formula : AllSay text Formula (behind_line text p) at_kind
-  pub kind : KindStandsAt text e.kind at_kind q
+  pub formula : AllSay table Formula (behind_line table p) at_kind
+  pub kind : KindStandsAt table e.kind at_kind q
   -- behind it there is an empty line, or nothing
-  pub ends : part_in (line_from text q) ≡ End
+  pub ends : part_in (line_from table q) ≡ End

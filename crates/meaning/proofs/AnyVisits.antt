@@ -73,7 +73,7 @@ visit_same {u = u} {v = v} (to_span t q e) = sym (opened_rests u t.serial t.open
 module _ (S : Setting) (L : Limits S.sheet) where
   one_visit_moves : {k : ℕ} {w : Work} {o : Outcome} → WellFormed S w → OneVisit S k w o → Moves S w Any o
   one_visit_moves {k} {w} t (to_duty d q e) =
-      subst (λ z. Moves S w Any z) e (rule_moves k (length S.sheet.expressions) d.statement d w (statement_at S d.statement) d.number (statement_with_ok S L d.statement) t (t.duty_lives d q))
+      subst (λ z. Moves S w Any z) e (rule_moves k (length S.sheet.expressions) d.statement d w (statement_at S d.statement) d.number (statement_with_ok S L d.statement) t (t.duty_present d q))
   one_visit_moves {k} {w} t (to_span r q e) = subst (λ z. Moves S w Any z) e (opened_moves r.opening r.serial w t (record { span = r; inside = q; named = refl }) (t.nested r q))
 
   pub visits_move : {k : ℕ} {w u : Work} → WellFormed S w → Visits S k w u → Grows w u × WellFormed S u

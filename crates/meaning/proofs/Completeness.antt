@@ -59,11 +59,11 @@ lower_two p q s h = let r = and_parts (ltb p s) (ltb q s) h in (ltb-true p s r.0
 
 module _ (S : Setting) (L : Limits S.sheet) {ρ : ℕ → ℕ → ℤ} {k : ℕ} {E : ℕ → ℕ} {u : Work} (F : Fulfils S ρ k E u) where
   -- the number of an expression, for a duty
-  abbrev worth : Duty → ℕ → ℤ
-  worth d e = number_on S ρ k (E d.span) e
+  abbrev number_at_rest : Duty → ℕ → ℤ
+  number_at_rest d e = number_on S ρ k (E d.span) e
 
   -- it is known
-  shown : (d : Duty) → d ∈ u.duties → (e : ℕ) → Shows S d u e (worth d e)
+  shown : (d : Duty) → d ∈ u.duties → (e : ℕ) → Shows S d u e (number_at_rest d e)
   shown d q e = let b : EndOk k E u d.span = F.duty_ends d q in known_all S L u.known (u.ends d.span) e ρ k (E d.span) F.given F.values b.0 b.1
 
   -- a span that an opening made runs its body
@@ -105,9 +105,9 @@ module _ (S : Setting) (L : Limits S.sheet) {ρ : ℕ → ℕ → ℤ} {k : ℕ}
   due_of : {i j : ℕ} (d : Duty) {st : Statement} {o : Option ℤ} → statement_at S d.statement ≡ st → d.number ≡ o → Due S ρ i j d → Owed S ρ i j st o
   due_of {i} {j} d a c h = subst₂ (λ z y. Owed S ρ i j z y) a c h
 
-  if_exact : (d : Duty) (e p r : ℕ) {o : Option ℤ} → d ∈ u.duties → (p < d.statement) × (r < d.statement) → ((v : ℤ) → Shows S d u e v → plain (cond (truth v) p r) d.span ∈ u.duties) → Lower d → Dec (worth d e ≡ pos 0) → Owed S ρ k (E d.span) (If e p r) o
-  if_exact d e p r q b h ih (yes z) = else_owed (z) (ih (plain r d.span) (subst (λ x. plain x d.span ∈ u.duties) (truth_no (worth d e) p r z) (h (worth d e) (shown d q e))) b.1)
-  if_exact d e p r q b h ih (no z) = then_owed z (ih (plain p d.span) (subst (λ x. plain x d.span ∈ u.duties) (truth_yes (worth d e) p r z) (h (worth d e) (shown d q e))) b.0)
+  if_exact : (d : Duty) (e p r : ℕ) {o : Option ℤ} → d ∈ u.duties → (p < d.statement) × (r < d.statement) → ((v : ℤ) → Shows S d u e v → plain (cond (truth v) p r) d.span ∈ u.duties) → Lower d → Dec (number_at_rest d e ≡ pos 0) → Owed S ρ k (E d.span) (If e p r) o
+  if_exact d e p r q b h ih (yes z) = else_owed (z) (ih (plain r d.span) (subst (λ x. plain x d.span ∈ u.duties) (truth_no (number_at_rest d e) p r z) (h (number_at_rest d e) (shown d q e))) b.1)
+  if_exact d e p r q b h ih (no z) = then_owed z (ih (plain p d.span) (subst (λ x. plain x d.span ∈ u.duties) (truth_yes (number_at_rest d e) p r z) (h (number_at_rest d e) (shown d q e))) b.0)
 
   always_exact : (d : Duty) (p : ℕ) {o : Option ℤ} → d ∈ u.duties → statement_at S d.statement ≡ Always p → d.number ≡ o → (u.ends d.span ≡ On → d ∈ u.later) → Owed S ρ k (E d.span) (statement_at S p) None → (i : ℕ) → k ≤ i → i ≤ E d.span → Owed S ρ i (E d.span) (statement_at S p) None
   always_exact d p q a c h now i l r = by (ℕ_discrete k i)
@@ -116,7 +116,7 @@ module _ (S : Setting) (L : Limits S.sheet) {ρ : ℕ → ℕ → ℤ} {k : ℕ}
       by (yes e) = subst (λ j. Owed S ρ j (E d.span) (statement_at S p) None) e now
       by (no x) = let b : EndOk k E u d.span = F.duty_ends d q in always_inv (due_of d a c (F.carried_on d (h (on_if (u.ends d.span) (omega arith) b.0 b.1)))) i (omega arith) r
 
-  halt_exact : (d : Duty) (e : ℕ) {o : Option ℤ} → d ∈ u.duties → statement_at S d.statement ≡ Halt e → d.number ≡ o → (worth d e ≢ pos 0 → u.ends d.span ≡ Last) × (worth d e ≡ pos 0 → (u.ends d.span ≡ On) × (d ∈ u.later)) → Dec (worth d e ≡ pos 0) → Owed S ρ k (E d.span) (Halt e) o
+  halt_exact : (d : Duty) (e : ℕ) {o : Option ℤ} → d ∈ u.duties → statement_at S d.statement ≡ Halt e → d.number ≡ o → (number_at_rest d e ≢ pos 0 → u.ends d.span ≡ Last) × (number_at_rest d e ≡ pos 0 → (u.ends d.span ≡ On) × (d ∈ u.later)) → Dec (number_at_rest d e ≡ pos 0) → Owed S ρ k (E d.span) (Halt e) o
   halt_exact d e q a c h (no z) =
       let p : E d.span ≡ k = end_last (h.0 z) (F.duty_ends d q).1 in
       halt_owed (λ y. z (subst (λ i. number_on S ρ i (E d.span) e ≡ pos 0) p y)) (λ i l r. absurd (omega arith))
@@ -146,11 +146,11 @@ module _ (S : Setting) (L : Limits S.sheet) {ρ : ℕ → ℕ → ℤ} {k : ℕ}
       b : EndOk k E u d.span
       b = F.duty_ends d q
 
-      m : (numbered d.statement (worth d e) d.span ∈ u.later) × (d ∈ u.later)
-      m = h (on_if (u.ends d.span) (omega arith) b.0 b.1) (worth d e) (shown d q e)
+      m : (numbered d.statement (number_at_rest d e) d.span ∈ u.later) × (d ∈ u.later)
+      m = h (on_if (u.ends d.span) (omega arith) b.0 b.1) (number_at_rest d e) (shown d q e)
 
       by : Dec (k ≡ i) → ρ (suc i) x ≡ number_on S ρ i (E d.span) e
-      by (yes y) = subst (λ j. ρ (suc j) x ≡ number_on S ρ j (E d.span) e) y (gets_value_inv (due_for d.statement a (F.carried_on (numbered d.statement (worth d e) d.span) m.0)))
+      by (yes y) = subst (λ j. ρ (suc j) x ≡ number_on S ρ j (E d.span) e) y (gets_value_inv (due_for d.statement a (F.carried_on (numbered d.statement (number_at_rest d e) d.span) m.0)))
       by (no y) = gets_inv (due_of d a c (F.carried_on d m.1)) i (omega arith) r
 
   -- the lower duties of a number
@@ -169,7 +169,7 @@ module _ (S : Setting) (L : Limits S.sheet) {ρ : ℕ → ℕ → ℤ} {k : ℕ}
   for_exact s t e p a b ih (pos n) q = for_count s t e p a b ih n q
   for_exact s t e p a b ih (negsuc n) q = let d : Duty = numbered s (negsuc n) t in let h : u.ends t ≡ Last = subst (λ z. Demands S k d u z (Some (negsuc n))) a (F.rest.of_duty d q) in for_below (sym (end_last h (F.duty_ends d q).1))
 
-  while_exact : (d : Duty) (e p : ℕ) {o : Option ℤ} → d ∈ u.duties → statement_at S d.statement ≡ While e p → p < d.statement → (worth d e ≢ pos 0 → Stands (while_opening d p) u.spans) × (worth d e ≡ pos 0 → u.ends d.span ≡ Last) → Lower d → Dec (worth d e ≡ pos 0) → Owed S ρ k (E d.span) (While e p) o
+  while_exact : (d : Duty) (e p : ℕ) {o : Option ℤ} → d ∈ u.duties → statement_at S d.statement ≡ While e p → p < d.statement → (number_at_rest d e ≢ pos 0 → Stands (while_opening d p) u.spans) × (number_at_rest d e ≡ pos 0 → u.ends d.span ≡ Last) → Lower d → Dec (number_at_rest d e ≡ pos 0) → Owed S ρ k (E d.span) (While e p) o
   while_exact d e p q a b h ih (yes z) = while_done (z) (sym (end_last (h.1 z) (F.duty_ends d q).1))
   while_exact d e p q a b h ih (no z) =
       let st : Stands (while_opening d p) u.spans = h.0 z in
@@ -183,22 +183,22 @@ module _ (S : Setting) (L : Limits S.sheet) {ρ : ℕ → ℕ → ℤ} {k : ℕ}
   exact_of m d False o q a c b h ih = absurd h
   exact_of m d Empty o q a c b h ih = empty_owed (sym (end_last h (F.duty_ends d q).1))
   exact_of m d More o q a c b h ih = more_owed (end_on h (F.duty_ends d q).1)
-  exact_of m d (Is x e) o q a c b h ih = is_owed (same_at (F.values x (ltb-true x (width S) (and_parts (ltb x (width S)) (ltb e m) b).0)) (h (worth d e) (shown d q e)))
+  exact_of m d (Is x e) o q a c b h ih = is_owed (same_at (F.values x (ltb-true x (width S) (and_parts (ltb x (width S)) (ltb e m) b).0)) (h (number_at_rest d e) (shown d q e)))
   exact_of m d (And p r) o q a c b h ih = let l = lower_two p r d.statement b in and_owed (ih (plain p d.span) h.0 l.0) (ih (plain r d.span) h.1 l.1)
-  exact_of m d (If e p r) o q a c b h ih = if_exact d e p r q (lower_two p r d.statement (and_parts (ltb e m) (ltb p d.statement && ltb r d.statement) b).1) h ih (zero_or_not (worth d e))
+  exact_of m d (If e p r) o q a c b h ih = if_exact d e p r q (lower_two p r d.statement (and_parts (ltb e m) (ltb p d.statement && ltb r d.statement) b).1) h ih (zero_or_not (number_at_rest d e))
   exact_of m d (Next p) o q a c b h ih = next_owed (end_on h.0 (F.duty_ends d q).1) (F.carried_on (plain p d.span) h.1)
   exact_of m d (Always p) o q a c b h ih = always_owed (always_exact d p q a c h.1 (ih (plain p d.span) h.0 (ltb-true p d.statement b)))
-  exact_of m d (Halt e) o q a c b h ih = halt_exact d e q a c (h (worth d e) (shown d q e)) (zero_or_not (worth d e))
-  exact_of m d (Len e) None q a c b h ih = len_known d e q (worth d e) refl (len_exact d e q a (worth d e) (h (worth d e) (shown d q e)))
+  exact_of m d (Halt e) o q a c b h ih = halt_exact d e q a c (h (number_at_rest d e) (shown d q e)) (zero_or_not (number_at_rest d e))
+  exact_of m d (Len e) None q a c b h ih = len_known d e q (number_at_rest d e) refl (len_exact d e q a (number_at_rest d e) (h (number_at_rest d e) (shown d q e)))
   exact_of m d (Len e) (Some n) q a c b h ih = len_some d e n (len_exact d e q a n h)
   exact_of m d (Gets x e) None q a c b h ih = gets_owed (gets_exact d x e q a c h)
   exact_of m d (Gets x e) (Some v) q a c b h ih = gets_value (same_at (F.values x (ltb-true x (width S) (and_parts (ltb x (width S)) (ltb e m) b).0)) h)
   exact_of m d (Chop p r) o q a c b h ih =
       let f = follows (chop_opening d p r) h.span h.inside h.opened (λ m. ih (plain r d.span) m (lower_two p r d.statement b).1) in
       chop_owed (E h.span.serial) f.from f.till (ih (plain p h.span.serial) (body (chop_opening d p r) h).0 (lower_two p r d.statement b).0) f.due
-  exact_of m d (For e p) None q a c b h ih = for_owed (worth d e) refl (for_exact d.statement d.span e p a (ltb-true p d.statement (and_parts (ltb e m) (ltb p d.statement) b).1) ih (worth d e) (h (worth d e) (shown d q e)))
+  exact_of m d (For e p) None q a c b h ih = for_owed (number_at_rest d e) refl (for_exact d.statement d.span e p a (ltb-true p d.statement (and_parts (ltb e m) (ltb p d.statement) b).1) ih (number_at_rest d e) (h (number_at_rest d e) (shown d q e)))
   exact_of m d (For e p) (Some n) q a c b h ih = for_exact d.statement d.span e p a (ltb-true p d.statement (and_parts (ltb e m) (ltb p d.statement) b).1) ih n (subst (λ z. record { statement = d.statement; number = z; span = d.span } ∈ u.duties) c q)
-  exact_of m d (While e p) o q a c b h ih = while_exact d e p q a (ltb-true p d.statement (and_parts (ltb e m) (ltb p d.statement) b).1) (h (worth d e) (shown d q e)) ih (zero_or_not (worth d e))
+  exact_of m d (While e p) o q a c b h ih = while_exact d e p q a (ltb-true p d.statement (and_parts (ltb e m) (ltb p d.statement) b).1) (h (number_at_rest d e) (shown d q e)) ih (zero_or_not (number_at_rest d e))
   exact_of m d (Request x) o q a c b h ih = request_owed (λ v e. same_at (F.values x (ltb-true x (width S) b)) (h v e))
 
   exact_below : (b : ℕ) (d : Duty) → d ∈ u.duties → d.statement < b → Due S ρ k (E d.span) d

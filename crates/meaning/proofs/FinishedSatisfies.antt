@@ -18,16 +18,16 @@ use Rattle.meaning.proofs.Rest.{SpanRest}
 use Rattle.meaning.proofs.FiveChanges.{Grows}
 use Rattle.meaning.proofs.StaysWellFormed.{Resting}
 use Rattle.meaning.proofs.AnyVisits.{any_order_rests}
-use Rattle.meaning.proofs.RunsInSomeOrder.{Rows, RunBegins, at_first, one_on, Ends, Stays, going_in, stale, in_going, lives_going}
+use Rattle.meaning.proofs.RunsInSomeOrder.{Rows, RunBegins, at_first, one_on, Ends, Stays, going_in, stale, in_going, present_going}
 use Rattle.meaning.proofs.Completeness.{EndOk, Fulfils, reaches, follows, exact}
 
 module _ {S : Setting} where
   -- the next state starts in order
-  pub next_tidy : (k : ℕ) (w u : Work) → Resting S k w u → WellFormed S (next_work u)
-  next_tidy k w u R = record {
+  pub next_well_formed : (k : ℕ) (w u : Work) → Resting S k w u → WellFormed S (next_work u)
+  next_well_formed k w u R = record {
     fitted = λ x. tt;
-    duty_lives = λ d q. lives_going u.ends u.spans d.span (R.well_formed.later_lives d q).0 (R.well_formed.later_lives d q).1;
-    later_lives = λ d q. elim q [ ];
+    duty_present = λ d q. present_going u.ends u.spans d.span (R.well_formed.later_present d q).0 (R.well_formed.later_present d q).1;
+    later_present = λ d q. elim q [ ];
     nested = λ t q. nested t (going_in u.ends u.spans t q);
     few_serials = λ t q. few_serials t (going_in u.ends u.spans t q);
     bodies = λ t q g o f. absurd (both_ways t.fresh (going_in u.ends u.spans t q).stale f);
@@ -38,20 +38,20 @@ module _ {S : Setting} where
 
       by : (s : ℕ) (q : Option Opening) → u.ends s ≡ On → SpanRest u s q → Nested u.spans s q → Nested (going_on u.ends u.spans) s q
       by s None o r n = n
-      by s (Some g) o r n = (n.0, lives_going u.ends u.spans g.follower.span n.1 (r.0 o))
+      by s (Some g) o r n = (n.0, present_going u.ends u.spans g.follower.span n.1 (r.0 o))
 
       nested : (t : Span) → Stays u.ends u.spans t → Nested (going_on u.ends u.spans) t.serial t.opening
       nested t h = subst₂ (λ s q. Nested (going_on u.ends u.spans) s q) h.same_serial h.same_opening_says
           (by h.was.serial h.was.opening h.is_on (R.rest.of_span h.was h.was_in) (R.well_formed.nested h.was h.was_in))
 
   -- so does the first
-  pub first_tidy : (p : ℕ) → WellFormed S (first_work p)
-  first_tidy p = record {
+  pub first_well_formed : (p : ℕ) → WellFormed S (first_work p)
+  first_well_formed p = record {
     fitted = λ x. tt;
-    duty_lives = one_duty;
-    later_lives = λ d q. elim q [ ];
+    duty_present = one_duty;
+    later_present = λ d q. elim q [ ];
     nested = one_nested;
-    few_serials = one_young;
+    few_serials = one_few_serials;
     bodies = one_body;
   }
     where
@@ -63,9 +63,9 @@ module _ {S : Setting} where
       one_nested t (here e) = subst (λ z. Nested (whole_span ∷ []) z.serial z.opening) (sym e) refl
       one_nested t (there q) = elim q [ ]
 
-      one_young : (t : Span) → t ∈ (whole_span ∷ []) → t.serial < 1
-      one_young t (here e) = subst (λ z. z.serial < 1) (sym e) (omega arith)
-      one_young t (there q) = elim q [ ]
+      one_few_serials : (t : Span) → t ∈ (whole_span ∷ []) → t.serial < 1
+      one_few_serials t (here e) = subst (λ z. z.serial < 1) (sym e) (omega arith)
+      one_few_serials t (there q) = elim q [ ]
 
       one_body : (t : Span) → t ∈ (whole_span ∷ []) → RunsBody (first_work p) t
       one_body t (here e) g o f = absurd (both_ways t.fresh (ap (λ z. z.fresh) e) f)
@@ -73,12 +73,12 @@ module _ {S : Setting} where
 
 module _ (S : Setting) (L : Limits S.sheet) {ρ : ℕ → ℕ → ℤ} where
   -- so does every state of a run, and each settled one is at rest
-  pub begins_tidy : {k : ℕ} {w : Work} → RunBegins S ρ k w → WellFormed S w
-  begins_tidy at_first = first_tidy S.sheet.run
-  begins_tidy (one_on {k = k} {w = w} {u = u} b r e) = next_tidy k w u (any_order_rests S L (begins_tidy b) r.settled)
+  pub begins_well_formed : {k : ℕ} {w : Work} → RunBegins S ρ k w → WellFormed S w
+  begins_well_formed at_first = first_well_formed S.sheet.run
+  begins_well_formed (one_on {k = k} {w = w} {u = u} b r e) = next_well_formed k w u (any_order_rests S L (begins_well_formed b) r.settled)
 
   pub row_rests : {k : ℕ} {w u : Work} → RunBegins S ρ k w → Rows S ρ k w u → Resting S k w u
-  row_rests b r = any_order_rests S L (begins_tidy b) r.settled
+  row_rests b r = any_order_rests S L (begins_well_formed b) r.settled
 
 -- the ends at state k from those of the next
 abbrev back_by : End → ℕ → ℕ → ℕ
@@ -126,11 +126,11 @@ module _ (S : Setting) (L : Limits S.sheet) (ρ : ℕ → ℕ → ℤ) where
       rest = R.rest;
       given = r.complete.all_given;
       values = r.values;
-      duty_ends = λ d q. ok_at B spans d.span (R.well_formed.duty_lives d q);
+      duty_ends = λ d q. ok_at B spans d.span (R.well_formed.duty_present d q);
       span_ends = spans;
       outer_ends = outer_at B spans;
       bodies = R.well_formed.bodies;
-      carried_on = λ d q. subst (λ j. Due S ρ (suc k) j d) (sym (back_on k (E d.span) (R.well_formed.later_lives d q).1)) (M.dues d q);
+      carried_on = λ d q. subst (λ j. Due S ρ (suc k) j d) (sym (back_on k (E d.span) (R.well_formed.later_present d q).1)) (M.dues d q);
       followed = λ t g q e o. subst₂ (λ i j. (i ≤ j) × Due S ρ i j g.follower) (sym (back_on k (E t.serial) o)) (sym (back_on k (E g.follower.span) (outer_on t g q e o))) (M.follow (stale t) g (in_going u.ends u.spans t q o) e);
     }
       where
@@ -159,11 +159,11 @@ module _ (S : Setting) (L : Limits S.sheet) (ρ : ℕ → ℕ → ℤ) where
       rest = R.rest;
       given = r.complete.all_given;
       values = r.values;
-      duty_ends = λ d q. ok_at (λ s. k) spans d.span (R.well_formed.duty_lives d q);
+      duty_ends = λ d q. ok_at (λ s. k) spans d.span (R.well_formed.duty_present d q);
       span_ends = spans;
       outer_ends = outer_at (λ s. k) spans;
       bodies = R.well_formed.bodies;
-      carried_on = λ d q. let l : Present u.spans d.span = (R.well_formed.later_lives d q).0 in absurd (none_on z (suc l.span.serial) l.span l.inside (omega arith) (ap u.ends l.named ∙ (R.well_formed.later_lives d q).1));
+      carried_on = λ d q. let l : Present u.spans d.span = (R.well_formed.later_present d q).0 in absurd (none_on z (suc l.span.serial) l.span l.inside (omega arith) (ap u.ends l.named ∙ (R.well_formed.later_present d q).1));
       followed = λ t g q e o. absurd (none_on z (suc t.serial) t q (omega arith) o);
     }
       where

@@ -28,8 +28,8 @@ grows_refl w = record { more_duties = λ d q. q; more_spans = λ t q. q }
 pub grows_trans : {w u v : Work} → Grows w u → Grows u v → Grows w v
 grows_trans a b = record { more_duties = λ d q. b.more_duties d (a.more_duties d q); more_spans = λ t q. b.more_spans t (a.more_spans t q) }
 
-pub lives_more : {w u : Work} {s : ℕ} → Grows w u → Present w.spans s → Present u.spans s
-lives_more a h = record { span = h.span; inside = a.more_spans h.span h.inside; named = h.named }
+pub present_more : {w u : Work} {s : ℕ} → Grows w u → Present w.spans s → Present u.spans s
+present_more a h = record { span = h.span; inside = a.more_spans h.span h.inside; named = h.named }
 
 -- an outcome that grew from w, is in order and says P, unless it is a stop
 pub data Moves (S : Setting) (w : Work) (P : Work → Type 0) : Outcome → Type 0 where
@@ -73,11 +73,11 @@ module _ {S : Setting} where
   pub moves_stay : (w : Work) → WellFormed S w → Moves S w Any (goes w false)
   moves_stay w t = moves_on (grows_refl w) (less_same w) t tt
 
-  add_tidy : (d : Duty) (w : Work) → WellFormed S w → Present w.spans d.span → WellFormed S (with_duty d w)
-  add_tidy d w t h = record {
+  add_well_formed : (d : Duty) (w : Work) → WellFormed S w → Present w.spans d.span → WellFormed S (with_duty d w)
+  add_well_formed d w t h = record {
     fitted = t.fitted;
-    duty_lives = all_snoc (λ c. Present w.spans c.span) d w.duties t.duty_lives h;
-    later_lives = t.later_lives;
+    duty_present = all_snoc (λ c. Present w.spans c.span) d w.duties t.duty_present h;
+    later_present = t.later_present;
     nested = t.nested;
     few_serials = t.few_serials;
     bodies = λ r q. body_more w (with_duty d w) r (λ c m. ∈_left d m) (λ e m. m) (t.bodies r q);
@@ -87,13 +87,13 @@ module _ {S : Setting} where
   add_moves d w t h =
       cond_both (has_duty d w.duties) (unchanged w) (if_room (ltb (length w.duties) most_duties) (with_duty d w)) (Moves S w Any) (λ e. moves_stay w t)
       (λ e. moves_room (ltb (length w.duties) most_duties) (with_duty d w)
-      (λ r. moves_on (record { more_duties = λ c q. ∈_left d q; more_spans = λ c q. q }) (less_duty (width S) d w (ltb-true (length w.duties) most_duties r)) (add_tidy d w t h) tt))
+      (λ r. moves_on (record { more_duties = λ c q. ∈_left d q; more_spans = λ c q. q }) (less_duty (width S) d w (ltb-true (length w.duties) most_duties r)) (add_well_formed d w t h) tt))
 
-  carry_tidy : (d : Duty) (w : Work) → WellFormed S w → Present w.spans d.span → w.ends d.span ≡ On → WellFormed S (with_later d w)
-  carry_tidy d w t h e = record {
+  carry_well_formed : (d : Duty) (w : Work) → WellFormed S w → Present w.spans d.span → w.ends d.span ≡ On → WellFormed S (with_later d w)
+  carry_well_formed d w t h e = record {
     fitted = t.fitted;
-    duty_lives = t.duty_lives;
-    later_lives = all_snoc (λ c. Present w.spans c.span × (w.ends c.span ≡ On)) d w.later t.later_lives (h, e);
+    duty_present = t.duty_present;
+    later_present = all_snoc (λ c. Present w.spans c.span × (w.ends c.span ≡ On)) d w.later t.later_present (h, e);
     nested = t.nested;
     few_serials = t.few_serials;
     bodies = t.bodies;
@@ -104,20 +104,20 @@ module _ {S : Setting} where
       let P : Work → Type 0 = λ u. u.ends d.span ≡ On in
       cond_both (has_duty d w.later) (unchanged w) (if_room (ltb (length w.later) most_duties) (with_later d w)) (Moves S w P) (λ _. moves_on (grows_refl w) (less_same w) t e)
       (λ _. moves_room (ltb (length w.later) most_duties) (with_later d w)
-      (λ r. moves_on (same_lists w (with_later d w) refl refl) (less_later (width S) d w (ltb-true (length w.later) most_duties r)) (carry_tidy d w t h e) e))
+      (λ r. moves_on (same_lists w (with_later d w) refl refl) (less_later (width S) d w (ltb-true (length w.later) most_duties r)) (carry_well_formed d w t h e) e))
 
-  end_tidy : (e : End) (s : ℕ) (w : Work) → w.ends s ≡ Unknown → WellFormed S w → WellFormed S (with_end e s w)
-  end_tidy e s w a t = record {
+  end_well_formed : (e : End) (s : ℕ) (w : Work) → w.ends s ≡ Unknown → WellFormed S w → WellFormed S (with_end e s w)
+  end_well_formed e s w a t = record {
     fitted = t.fitted;
-    duty_lives = t.duty_lives;
-    later_lives = λ d q. ((t.later_lives d q).0, kept_end w.ends s e d.span On a (t.later_lives d q).1);
+    duty_present = t.duty_present;
+    later_present = λ d q. ((t.later_present d q).0, kept_end w.ends s e d.span On a (t.later_present d q).1);
     nested = t.nested;
     few_serials = t.few_serials;
     bodies = λ r q. body_more w (with_end e s w) r (λ c m. m) (λ c m. kept_end w.ends s e r.serial c a m) (t.bodies r q);
   }
 
   put_new : (e : End) (s : ℕ) (w : Work) → IsEnded e → w.ends s ≡ Unknown → WellFormed S w → Present w.spans s → EndIs (set_at w.ends s e s) e → Moves S w (λ u. EndIs (u.ends s) e) (goes (with_end e s w) true)
-  put_new e s w i a t l p = moves_on (same_lists w (with_end e s w) refl refl) (less_end (width S) e s w i a l) (end_tidy e s w a t) p
+  put_new e s w i a t l p = moves_on (same_lists w (with_end e s w) refl refl) (less_end (width S) e s w i a l) (end_well_formed e s w a t) p
 
   put_by_moves : (p : ℕ) (c e : End) (s : ℕ) (w : Work) → w.ends s ≡ c → WellFormed S w → Present w.spans s → Moves S w (λ u. EndIs (u.ends s) e) (put_by p c e s w)
   put_by_moves p Unknown Unknown s w a t l = moves_on (grows_refl w) (less_same w) t tt
@@ -133,11 +133,11 @@ module _ {S : Setting} where
   pub put_moves : (p : ℕ) (e : End) (s : ℕ) (w : Work) → WellFormed S w → Present w.spans s → Moves S w (λ u. EndIs (u.ends s) e) (put p e s w)
   put_moves p e s w t l = put_by_moves p (w.ends s) e s w refl t l
 
-  value_tidy : (x : ℕ) (v : ℤ) (w : Work) → value_fits S x v ≡ true → WellFormed S w → WellFormed S (with_value x v w)
-  value_tidy x v w e t = record {
+  value_well_formed : (x : ℕ) (v : ℤ) (w : Work) → value_fits S x v ≡ true → WellFormed S w → WellFormed S (with_value x v w)
+  value_well_formed x v w e t = record {
     fitted = set_all (λ y o. FitSays S y o) w.known x (Some v) e t.fitted;
-    duty_lives = t.duty_lives;
-    later_lives = t.later_lives;
+    duty_present = t.duty_present;
+    later_present = t.later_present;
     nested = t.nested;
     few_serials = t.few_serials;
     bodies = t.bodies;
@@ -146,7 +146,7 @@ module _ {S : Setting} where
   give_by_moves : (p : ℕ) (q : Option ℤ) (x : ℕ) (v : ℤ) (w : Work) → w.known x ≡ q → x < width S → WellFormed S w → Moves S w Any (give_by S p q x v w)
   give_by_moves p None x v w n l t =
       cond_both (value_fits S x v) (changed (with_value x v w)) (stops (Contradiction p)) (Moves S w Any)
-      (λ e. moves_on (same_lists w (with_value x v w) refl refl) (less_known (width S) x v w n l) (value_tidy x v w e t) tt) (λ e. moves_stop)
+      (λ e. moves_on (same_lists w (with_value x v w) refl refl) (less_known (width S) x v w n l) (value_well_formed x v w e t) tt) (λ e. moves_stop)
   give_by_moves p (Some a) x v w n l t = cond_both (equal_numbers a v) (unchanged w) (stops (Contradiction p)) (Moves S w Any) (λ e. moves_stay w t) (λ e. moves_stop)
 
   pub give_moves : (p x : ℕ) (v : ℤ) (w : Work) → x < width S → WellFormed S w → Moves S w Any (give S p x v w)
@@ -157,7 +157,7 @@ new_grows g w = record { more_duties = λ c q. ∈_left _ q; more_spans = λ c q
 
 new_nested : (g : Opening) (w : Work) (s : ℕ) (q : Option Opening) → Nested w.spans s q → Nested (with_span g w).spans s q
 new_nested g w s None h = h
-new_nested g w s (Some r) h = (h.0, lives_more (new_grows g w) h.1)
+new_nested g w s (Some r) h = (h.0, present_more (new_grows g w) h.1)
 
 ends_so : (c e : End) → c ≡ e → EndIs c e
 ends_so c Unknown h = tt
@@ -172,12 +172,12 @@ new_body g w h o f =
     (∈_end _ w.duties, ends_so _ g.starts (set_same w.ends w.next g.starts))
 
 module _ {S : Setting} where
-  new_tidy : (g : Opening) (w : Work) → Present w.spans g.follower.span → WellFormed S w → WellFormed S (with_span g w)
-  new_tidy g w h t = record {
+  new_well_formed : (g : Opening) (w : Work) → Present w.spans g.follower.span → WellFormed S w → WellFormed S (with_span g w)
+  new_well_formed g w h t = record {
     fitted = t.fitted;
-    duty_lives = all_snoc (λ d. Present (with_span g w).spans d.span) _ w.duties (λ d q. lives_more (new_grows g w) (t.duty_lives d q)) (record { span = _; inside = ∈_end _ w.spans; named = refl });
-    later_lives = λ d q. (lives_more (new_grows g w) (t.later_lives d q).0, old_end d.span (below (t.later_lives d q).0) ∙ (t.later_lives d q).1);
-    nested = all_snoc (λ r. Nested (with_span g w).spans r.serial r.opening) _ w.spans (λ r q. new_nested g w r.serial r.opening (t.nested r q)) (below h, lives_more (new_grows g w) h);
+    duty_present = all_snoc (λ d. Present (with_span g w).spans d.span) _ w.duties (λ d q. present_more (new_grows g w) (t.duty_present d q)) (record { span = _; inside = ∈_end _ w.spans; named = refl });
+    later_present = λ d q. (present_more (new_grows g w) (t.later_present d q).0, old_end d.span (below (t.later_present d q).0) ∙ (t.later_present d q).1);
+    nested = all_snoc (λ r. Nested (with_span g w).spans r.serial r.opening) _ w.spans (λ r q. new_nested g w r.serial r.opening (t.nested r q)) (below h, present_more (new_grows g w) h);
     few_serials = all_snoc (λ r. r.serial < suc w.next) _ w.spans (λ r q. omega (arith, t.few_serials r q)) (omega arith);
     bodies =
         all_snoc (RunsBody (with_span g w)) _ w.spans
@@ -196,4 +196,4 @@ module _ {S : Setting} where
       let b : Bool = ltb (length w.duties) most_duties in
       cond_both (has_opened g w.spans) (unchanged w) (if_room (a && b) (with_span g w)) (Moves S w Any) (λ _. moves_stay w t)
       (λ _. moves_room (a && b) (with_span g w)
-      (λ r. moves_on (new_grows g w) (less_span (width S) g w t.few_serials (ltb-true (length w.spans) most_spans (and_parts a b r).0)) (new_tidy g w h t) tt))
+      (λ r. moves_on (new_grows g w) (less_span (width S) g w t.few_serials (ltb-true (length w.spans) most_spans (and_parts a b r).0)) (new_well_formed g w h t) tt))

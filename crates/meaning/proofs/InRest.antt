@@ -76,7 +76,7 @@ module _ (S T : Setting) (k : ℕ) (φ ψ : ℕ → ℕ) (w v u : Work) (A : Ask
     known = λ x z e. absurd (none_some z (sym (W.unknown x) ∙ e));
     ends = λ s. subst (λ c. EndIs (u.ends (χ s)) c) (sym (W.free s)) tt;
     spans = λ t q. subst (λ z. z ∈ u.spans) (span_as φ χ w.spans t q (W.well_formed.nested t q) held) (D.resting.grown.more_spans (span_renamed φ t) (H.spans t q));
-    duties = λ d q. subst (λ z. z ∈ u.duties) (duty_as φ χ d (held d.span (W.well_formed.duty_lives d q))) (D.resting.grown.more_duties (duty_renamed φ d) (H.duties d q));
+    duties = λ d q. subst (λ z. z ∈ u.duties) (duty_as φ χ d (held d.span (W.well_formed.duty_present d q))) (D.resting.grown.more_duties (duty_renamed φ d) (H.duties d q));
     later = λ d q. absurd (nothing_in (subst (λ z. d ∈ z) W.nothing q));
   }
     where

@@ -35,12 +35,12 @@ module _ (T : Setting) (u : Work) (R : WellFormed T u) where
   duties_few : {n : ℕ} {φ : ℕ → ℕ} {w : Work} → PlacedIn (rest_grants u) n φ w → length w.duties ≤ length u.duties
   duties_few {n} {φ} {w} Y =
       fits_in (duty_renamed φ) w.duties u.duties Y.besides.duties
-      (λ a b p q e. duty_one Y.besides.one_to_one a b (Y.duties a p).0 (Y.duties b q).0 (R.duty_lives (duty_renamed φ a) (Y.duties a p).1) e) (λ a p. (Y.duties a p).1)
+      (λ a b p q e. duty_one Y.besides.one_to_one a b (Y.duties a p).0 (Y.duties b q).0 (R.duty_present (duty_renamed φ a) (Y.duties a p).1) e) (λ a p. (Y.duties a p).1)
 
   later_few : {n : ℕ} {φ : ℕ → ℕ} {w : Work} → PlacedIn (rest_grants u) n φ w → length w.later ≤ length u.later
   later_few {n} {φ} {w} Y =
       fits_in (duty_renamed φ) w.later u.later Y.besides.neat.later
-      (λ a b p q e. duty_one Y.besides.one_to_one a b (Y.later a p).0 (Y.later b q).0 (R.later_lives (duty_renamed φ a) (Y.later a p).1).0 e) (λ a p. (Y.later a p).1)
+      (λ a b p q e. duty_one Y.besides.one_to_one a b (Y.later a p).0 (Y.later b q).0 (R.later_present (duty_renamed φ a) (Y.later a p).1).0 e) (λ a p. (Y.later a p).1)
 
   spans_few : {n : ℕ} {φ : ℕ → ℕ} {w : Work} → PlacedIn (rest_grants u) n φ w → length w.spans ≤ length u.spans
   spans_few {n} {φ} {w} Y =

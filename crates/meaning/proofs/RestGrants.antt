@@ -105,8 +105,8 @@ module _ (S T : Setting) (k : ℕ) (u : Work) (K : KnowsAsMuch S T u) (R : WellF
     values = P.known;
     ends = P.ends;
     spans = λ r q. (t.few_serials r q, outer r.serial r.opening (t.nested r q), P.spans r q);
-    duties = λ d q. (below (t.duty_lives d q), P.duties d q);
-    later = λ d q. (below (t.later_lives d q).0, P.later d q);
+    duties = λ d q. (below (t.duty_present d q), P.duties d q);
+    later = λ d q. (below (t.later_present d q).0, P.later d q);
     besides = x;
   }
     where

@@ -84,8 +84,8 @@ in_going e [] t q h = elim q [ ]
 in_going e (x ∷ l) t (here p) h = subst (λ c. stale t ∈ kept_by c x (going_on e l)) (sym h ∙ ap (λ z. e z.serial) p) (here (ap stale p))
 in_going e (x ∷ l) t (there m) h = skip (e x.serial) x (stale t) (going_on e l) (in_going e l t m h)
 
-pub lives_going : (e : ℕ → End) (l : List Span) (s : ℕ) → Present l s → e s ≡ On → Present (going_on e l) s
-lives_going e l s h o = record { span = stale h.span; inside = in_going e l h.span h.inside (ap e h.named ∙ o); named = h.named }
+pub present_going : (e : ℕ → End) (l : List Span) (s : ℕ) → Present l s → e s ≡ On → Present (going_on e l) s
+present_going e l s h o = record { span = stale h.span; inside = in_going e l h.span h.inside (ap e h.named ∙ o); named = h.named }
 
 -- an end that is on, or last, says where the span ends
 pub end_on : {k j : ℕ} {c : End} → c ≡ On → EndSays k j c → k < j

@@ -15,7 +15,7 @@ use Rattle.meaning.specs.Runs.{going_on, next_work, is_ended, all_ended, lowest_
 use Rattle.meaning.specs.WellFormed.{◌∈◌, here, there, EndIs, Present, Nested, WellFormed, IsEnded}
 use Rattle.meaning.specs.AnyOrder.{duty_renamed, opening_renamed, opened_renamed, span_renamed, SameButForOrder}
 use Rattle.meaning.proofs.SettledStates.{all_ended_says}
-use Rattle.meaning.proofs.RunsInSomeOrder.{Stays, going_in, stale, in_going, lives_going}
+use Rattle.meaning.proofs.RunsInSomeOrder.{Stays, going_in, stale, in_going, present_going}
 use Rattle.meaning.proofs.PartOf.{PartOfWork, Distinct, Neat, Like, Twins}
 use Rattle.meaning.proofs.Distinct.{permuted, fits_in}
 use Rattle.meaning.proofs.Starts.{Start, Born, SettledFrom, next_start}
@@ -65,10 +65,10 @@ same_but_for_order {φ = φ} {ψ = ψ} {w = w} {v = v} A B H I z k e x = record 
   known = k;
   ends = e;
   spans = permuted (span_renamed φ) (span_renamed ψ) w.spans v.spans A.neat.spans B.neat.spans H.spans I.spans (span_back A H) (span_back B I);
-  duties = permuted (duty_renamed φ) (duty_renamed ψ) w.duties v.duties A.duties B.duties H.duties I.duties (λ d q. duty_back A H d (A.well_formed.duty_lives d q)) (λ d q. duty_back B I d (B.well_formed.duty_lives d q));
-  later = permuted (duty_renamed φ) (duty_renamed ψ) w.later v.later A.neat.later B.neat.later H.later I.later (λ d q. duty_back A H d (A.well_formed.later_lives d q).0) (λ d q. duty_back B I d (B.well_formed.later_lives d q).0);
-  owed = A.well_formed.duty_lives;
-  carried = λ d q. (A.well_formed.later_lives d q).0;
+  duties = permuted (duty_renamed φ) (duty_renamed ψ) w.duties v.duties A.duties B.duties H.duties I.duties (λ d q. duty_back A H d (A.well_formed.duty_present d q)) (λ d q. duty_back B I d (B.well_formed.duty_present d q));
+  later = permuted (duty_renamed φ) (duty_renamed ψ) w.later v.later A.neat.later B.neat.later H.later I.later (λ d q. duty_back A H d (A.well_formed.later_present d q).0) (λ d q. duty_back B I d (B.well_formed.later_present d q).0);
+  owed = A.well_formed.duty_present;
+  carried = λ d q. (A.well_formed.later_present d q).0;
   outer = λ t g q o. (subst (λ z. Nested w.spans t.serial z) o (A.well_formed.nested t q)).1;
   next = x;
 }
@@ -203,7 +203,7 @@ module _ {S T : Setting} {k : ℕ} {w b u v : Work} (M : Mutual S T k w b u v) w
     whole = whole_stays;
     has_whole =
         let h : Present w.spans 0 = M.starts.twins.there.has_whole in
-        lives_going u.ends u.spans 0 (record { span = h.span; inside = M.from_one.resting.grown.more_spans h.span h.inside; named = h.named }) o;
+        present_going u.ends u.spans 0 (record { span = h.span; inside = M.from_one.resting.grown.more_spans h.span h.inside; named = h.named }) o;
   }
 
   -- an end that is known there is known here

@@ -20,7 +20,7 @@ use Rattle.meaning.proofs.Fuel.{roomy_kept, next_roomy}
 use Rattle.meaning.proofs.RunsInSomeOrder.{Stays, going_in, stale}
 use Rattle.meaning.proofs.StaysWellFormed.{Resting}
 use Rattle.meaning.proofs.AnyVisits.{any_order_rests}
-use Rattle.meaning.proofs.FinishedSatisfies.{next_tidy, first_tidy}
+use Rattle.meaning.proofs.FinishedSatisfies.{next_well_formed, first_well_formed}
 use Rattle.meaning.proofs.PartOf.{AtRest, Distinct, Neat}
 use Rattle.meaning.proofs.Neat.{neat_kept}
 
@@ -117,7 +117,7 @@ stay_one u N t r a b e =
 module _ {S : Setting} where
   pub next_start : {k : ℕ} {w u : Work} → SettledFrom S k w u → Start S (next_work u)
   next_start {k} {w} {u} D = record {
-    well_formed = next_tidy k w u D.resting;
+    well_formed = next_well_formed k w u D.resting;
     neat = record {
       few_serials = λ t q. let a = going_in u.ends u.spans t q in subst (λ z. z < u.next) a.same_serial (D.neat.few_serials a.was a.was_in);
       one_serial = λ t r q p. stay_one u D.neat t r (going_in u.ends u.spans t q) (going_in u.ends u.spans r p);
@@ -134,7 +134,7 @@ module _ {S : Setting} where
 
   pub first_start : (p : ℕ) → Start S (first_work p)
   first_start p = record {
-    well_formed = first_tidy p;
+    well_formed = first_well_formed p;
     neat = record {
       few_serials = λ t q. few_serials t q;
       one_serial = λ t r q p e. only t q ∙ sym (only r p);

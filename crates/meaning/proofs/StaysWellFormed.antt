@@ -22,7 +22,7 @@ use Rattle.meaning.proofs.KnownNumbers.{statement_with_ok}
 use Rattle.meaning.proofs.Unchanged.{loud_stop}
 use Rattle.meaning.proofs.Rest.{Rest, pass_rests}
 use Rattle.meaning.proofs.Measure.{left, Less}
-use Rattle.meaning.proofs.FiveChanges.{Grows, grows_refl, grows_trans, lives_more, Moves, moves_stop, moves_on, Any, moves_any, moves_then, moves_stay, add_moves, carry_moves, put_moves, give_moves, open_moves}
+use Rattle.meaning.proofs.FiveChanges.{Grows, grows_refl, grows_trans, present_more, Moves, moves_stop, moves_on, Any, moves_any, moves_then, moves_stay, add_moves, carry_moves, put_moves, give_moves, open_moves}
 
 -- a settled state: in order, grown from its start, and at rest
 pub record Resting (S : Setting) (k : ℕ) (w u : Work) : Type 0 where
@@ -47,7 +47,7 @@ module _ {S : Setting} where
 
   -- put on, then carry
   on_carry : (p s : ℕ) (d : Duty) (w : Work) → d.span ≡ s → WellFormed S w → Present w.spans s → Moves S w Any (and_then (put p On s w) (carry d))
-  on_carry p s d w e t l = moves_then (carry d) (put_moves p On s w t l) (λ u a b q. moves_any (carry_moves d u b (subst (λ z. Present u.spans z) (sym e) (lives_more a l)) (ap u.ends e ∙ q)))
+  on_carry p s d w e t l = moves_then (carry d) (put_moves p On s w t l) (λ u a b q. moves_any (carry_moves d u b (subst (λ z. Present u.spans z) (sym e) (present_more a l)) (ap u.ends e ∙ q)))
 
   len_moves : (d : Duty) (c : ℤ) (w : Work) → WellFormed S w → Present w.spans d.span → Moves S w Any (len_rule d c w)
   len_moves d (pos zero) w t l = moves_any (put_moves d.statement Last d.span w t l)
@@ -65,14 +65,14 @@ module _ {S : Setting} where
   rule_moves k m s d w Empty o h t l = moves_any (put_moves d.statement Last d.span w t l)
   rule_moves k m s d w More o h t l = moves_any (put_moves d.statement On d.span w t l)
   rule_moves k m s d w (Is x e) o h t l = once_moves w (known_for S w d e) (give S d.statement x) t (λ v. give_moves d.statement x v w (ltb-true x (width S) (and_parts (ltb x (width S)) (ltb e m) h).0) t)
-  rule_moves k m s d w (And p q) o h t l = moves_then (add (plain q d.span)) (add_moves (plain p d.span) w t l) (λ u a b _. add_moves (plain q d.span) u b (lives_more a l))
+  rule_moves k m s d w (And p q) o h t l = moves_then (add (plain q d.span)) (add_moves (plain p d.span) w t l) (λ u a b _. add_moves (plain q d.span) u b (present_more a l))
   rule_moves k m s d w (If e p q) o h t l = once_moves w (known_for S w d e) (λ v. add (plain (cond (truth v) p q) d.span)) t (λ v. add_moves (plain (cond (truth v) p q) d.span) w t l)
   rule_moves k m s d w (Next p) o h t l = on_carry d.statement d.span (plain p d.span) w refl t l
-  rule_moves k m s d w (Always p) o h t l = moves_then (λ u. when_on (u.ends d.span) (carry d) u) (add_moves (plain p d.span) w t l) (λ u a b _. when_moves u (u.ends d.span) (carry d) b (λ e. moves_any (carry_moves d u b (lives_more a l) e)))
+  rule_moves k m s d w (Always p) o h t l = moves_then (λ u. when_on (u.ends d.span) (carry d) u) (add_moves (plain p d.span) w t l) (λ u a b _. when_moves u (u.ends d.span) (carry d) b (λ e. moves_any (carry_moves d u b (present_more a l) e)))
   rule_moves k m s d w (Halt e) o h t l = once_moves w (known_for S w d e) (halt_rule d) t (λ v. truth_moves w v _ _ (moves_any (put_moves d.statement Last d.span w t l)) (on_carry d.statement d.span d w refl t l))
   rule_moves k m s d w (Len e) None h t l = once_moves w (known_for S w d e) (len_rule d) t (λ v. len_moves d v w t l)
   rule_moves k m s d w (Len e) (Some c) h t l = len_moves d c w t l
-  rule_moves k m s d w (Gets x e) None h t l = when_moves w (w.ends d.span) (once_known (known_for S w d e) (gets_rule d)) t (λ o. once_moves w (known_for S w d e) (gets_rule d) t (λ v. moves_then (carry d) (carry_moves (numbered d.statement v d.span) w t l o) (λ u a b p. moves_any (carry_moves d u b (lives_more a l) p))))
+  rule_moves k m s d w (Gets x e) None h t l = when_moves w (w.ends d.span) (once_known (known_for S w d e) (gets_rule d)) t (λ o. once_moves w (known_for S w d e) (gets_rule d) t (λ v. moves_then (carry d) (carry_moves (numbered d.statement v d.span) w t l o) (λ u a b p. moves_any (carry_moves d u b (present_more a l) p))))
   rule_moves k m s d w (Gets x e) (Some v) h t l = give_moves d.statement x v w (ltb-true x (width S) (and_parts (ltb x (width S)) (ltb e m) h).0) t
   rule_moves k m s d w (Chop p q) o h t l = open_moves (chop_opening d p q) w l t
   rule_moves k m s d w (For e p) None h t l = once_moves w (known_for S w d e) (λ c. add (numbered d.statement c d.span)) t (λ c. add_moves (numbered d.statement c d.span) w t l)
@@ -94,12 +94,12 @@ module _ {S : Setting} where
   pub opened_moves : (q : Option Opening) (s : ℕ) (w : Work) → WellFormed S w → Present w.spans s → Nested w.spans s q → Moves S w Any (visit_opened q s w)
   opened_moves None s w t i l = moves_stay w t
   opened_moves (Some g) s w t i l =
-      moves_then (λ u. give_on (u.ends s) g u) (take_moves (w.ends g.follower.span) g.by s w t i) (λ u a b _. hand_moves (u.ends s) g u b (lives_more a l.1))
+      moves_then (λ u. give_on (u.ends s) g u) (take_moves (w.ends g.follower.span) g.by s w t i) (λ u a b _. hand_moves (u.ends s) g u b (present_more a l.1))
 
 module _ (S : Setting) (L : Limits S.sheet) where
   or_moves : (k : ℕ) (q : Option Duty) (f : Work → Outcome) (w : Work) → ((d : Duty) → q ≡ Some d → d ∈ w.duties) → WellFormed S w → ((u : Work) → WellFormed S u → Moves S u Any (f u)) → Moves S w Any (visit_or S k q f w)
   or_moves k None f w i t h = moves_stay w t
-  or_moves k (Some d) f w i t h = moves_then f (rule_moves k (length S.sheet.expressions) d.statement d w (statement_at S d.statement) d.number (statement_with_ok S L d.statement) t (t.duty_lives d (i d refl))) (λ u a b _. h u b)
+  or_moves k (Some d) f w i t h = moves_then f (rule_moves k (length S.sheet.expressions) d.statement d w (statement_at S d.statement) d.number (statement_with_ok S L d.statement) t (t.duty_present d (i d refl))) (λ u a b _. h u b)
 
   pub duties_moves : (k f i : ℕ) (w : Work) → WellFormed S w → Moves S w Any (visit_duties S k f i w)
   duties_moves k zero i w t = moves_stop

@@ -33,8 +33,8 @@ RunsBody w t = (g : Opening) → t.opening ≡ Some g → t.fresh ≡ true → (
 -- what every work of a run keeps in order
 pub record WellFormed (S : Setting) (w : Work) : Type 0 where
   pub fitted : (x : ℕ) → FitSays S x (w.known x)
-  pub duty_lives : (d : Duty) → d ∈ w.duties → Present w.spans d.span
-  pub later_lives : (d : Duty) → d ∈ w.later → Present w.spans d.span × (w.ends d.span ≡ On)
+  pub duty_present : (d : Duty) → d ∈ w.duties → Present w.spans d.span
+  pub later_present : (d : Duty) → d ∈ w.later → Present w.spans d.span × (w.ends d.span ≡ On)
   pub nested : (t : Span) → t ∈ w.spans → Nested w.spans t.serial t.opening
   pub few_serials : (t : Span) → t ∈ w.spans → t.serial < w.next
   pub bodies : (t : Span) → t ∈ w.spans → RunsBody w t

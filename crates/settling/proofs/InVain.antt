@@ -19,13 +19,13 @@ use Rattle.rules.specs.Visits.{visit_changed}
 use Rattle.settling.proofs.VisitsKeepOrder.{visit_later, span_later}
 
 -- what lives is older than the next span
-lives_below : (S : Setting) (w : Work) (s : ℕ) → WellFormed S w → Present w.spans s → s < w.next
-lives_below S w s t h = subst (λ z. z < w.next) h.named (t.few_serials h.span h.inside)
+present_below : (S : Setting) (w : Work) (s : ℕ) → WellFormed S w → Present w.spans s → s < w.next
+present_below S w s t h = subst (λ z. z < w.next) h.named (t.few_serials h.span h.inside)
 
 -- a span in order, and the one that it lies in, are older than the next
 inside_of : (S : Setting) (w : Work) (s : ℕ) (q : Option Opening) → WellFormed S w → Present w.spans s → Nested w.spans s q → Inside w.next s q
 inside_of S w s None t h n = tt
-inside_of S w s (Some g) t h n = (lives_below S w s t h, lives_below S w g.follower.span t n.1)
+inside_of S w s (Some g) t h n = (present_below S w s t h, present_below S w g.follower.span t n.1)
 
 not_says : (b : Bool) → not b ≡ true → b ≡ false
 not_says false e = refl
@@ -34,7 +34,7 @@ not_says true e = absurd (true≢false (sym e))
 -- a duty is visited in vain after a visit that waits for nothing
 pub duty_vain : (S : Setting) (k i : ℕ) (d : Duty) (w u : Work) (r : Result Visited Stop) → WellFormed S w → slice_get w.duties i ≡ Some d → outcome_of (visit_changed r) u ≡ visit S k d w → IfOk r (λ a. a.done ≡ not (waits S d w))
     → IfOk r (λ a. a.done ≡ true → (v : Work) → Extends u v → visit S k d v ≡ goes v false)
-duty_vain S k i d w u (Ok a) t e h n = λ m. visit-idle S k d w u a.changed (lives_below S w d.span t (t.duty_lives d (nth_in w.duties i d e))) (not_says (waits S d w) (sym n ∙ m)) (sym h) (visit_later S k d w u a.changed h)
+duty_vain S k i d w u (Ok a) t e h n = λ m. visit-idle S k d w u a.changed (present_below S w d.span t (t.duty_present d (nth_in w.duties i d e))) (not_says (waits S d w) (sym n ∙ m)) (sym h) (visit_later S k d w u a.changed h)
 duty_vain S k i d w u (Err s) t e h n = tt
 
 -- and so is a span

@@ -14,7 +14,7 @@ use Rattle.meaning.specs.Runs.{begun, whole_span, first_work, next_work}
 use Rattle.meaning.specs.WellFormed.{◌∈◌, here, there, Present, FitSays, Nested, WellFormed}
 use Rattle.meaning.proofs.StaysWellFormed.{settles_rest}
 use Rattle.meaning.proofs.RunsInSomeOrder.{going_in}
-use Rattle.meaning.proofs.FinishedSatisfies.{next_tidy, first_tidy}
+use Rattle.meaning.proofs.FinishedSatisfies.{next_well_formed, first_well_formed}
 use Rattle.board.specs.declared.row.Row.{Row}
 use Rattle.board.specs.Store.{span_of, Store, work, rising}
 use Rattle.board.proofs.Rows.{rising_below}
@@ -38,25 +38,25 @@ all_from p [] h = refl
 all_from p (y ∷ l) h = and_from (p y) (list_all p l) (h y (here refl)) (all_from p l (λ x q. h x (there q)))
 
 -- a span that the test finds lives
-lives_says : (l : List Span) (s : ℕ) → present l s ≡ true → Present l s
-lives_says [] s e = absurd (false≢true e)
-lives_says (t ∷ l) s e =
+present_says : (l : List Span) (s : ℕ) → present l s ≡ true → Present l s
+present_says [] s e = absurd (false≢true e)
+present_says (t ∷ l) s e =
     ⊎_elim (λ (p : eqb t.serial s ≡ true). record { span = t; inside = here refl; named = eqb-true t.serial s p })
-    (λ (p : present l s ≡ true). let h = lives_says l s p in record { span = h.span; inside = there h.inside; named = h.named }) (or_cases (eqb t.serial s) (present l s) e)
+    (λ (p : present l s ≡ true). let h = present_says l s p in record { span = h.span; inside = there h.inside; named = h.named }) (or_cases (eqb t.serial s) (present l s) e)
 
 -- and one that lives is found
-says_lives : (l : List Span) (s : ℕ) → Present l s → present l s ≡ true
-says_lives l s h = any_in (λ (t : Span). eqb t.serial s) l h.span h.inside (eq-eqb h.span.serial s h.named)
+says_present : (l : List Span) (s : ℕ) → Present l s → present l s ≡ true
+says_present l s h = any_in (λ (t : Span). eqb t.serial s) l h.span h.inside (eq-eqb h.span.serial s h.named)
 
 -- the same of a span's place
 nests_says : (l : List Span) (s : ℕ) (q : Option Opening) → nests l s q ≡ true → Nested l s q
 nests_says l s None e = eqb-true s 0 e
 nests_says l s (Some g) e =
-    let p = and_parts (ltb g.follower.span s) (present l g.follower.span) e in (ltb-true g.follower.span s p.0, lives_says l g.follower.span p.1)
+    let p = and_parts (ltb g.follower.span s) (present l g.follower.span) e in (ltb-true g.follower.span s p.0, present_says l g.follower.span p.1)
 
 says_nests : (l : List Span) (s : ℕ) (q : Option Opening) → Nested l s q → nests l s q ≡ true
 says_nests l s None h = eq-eqb s 0 h
-says_nests l s (Some g) h = and_from (ltb g.follower.span s) (present l g.follower.span) (lt-ltb g.follower.span s h.0) (says_lives l g.follower.span h.1)
+says_nests l s (Some g) h = and_from (ltb g.follower.span s) (present l g.follower.span) (lt-ltb g.follower.span s h.0) (says_present l g.follower.span h.1)
 
 -- an unknown number is none
 none_says : (o : Option ℤ) → is_none o ≡ true → o ≡ None
@@ -90,8 +90,8 @@ abbrev kept : List Span → Span → Bool
 kept l t = not t.fresh && nests l t.serial t.opening
 
 -- tables that are ready are a work in order
-pub ready_tidy : (S : Setting) (m : Store) → rising 0 m.rows m.next ≡ true → ready m ≡ true → WellFormed S (work m)
-ready_tidy S m o e =
+pub ready_well_formed : (S : Setting) (m : Store) → rising 0 m.rows m.next ≡ true → ready m ≡ true → WellFormed S (work m)
+ready_well_formed S m o e =
     let l : List Span = map span_of m.rows in
     let a = and_parts _ (list_all (kept l) l) e in
     let b = and_parts _ (list_all (λ (d : Duty). present l d.span) m.duties) a.0 in
@@ -99,8 +99,8 @@ ready_tidy S m o e =
     let k : (t : Span) → t ∈ l → (not t.fresh ≡ true) × (nests l t.serial t.opening ≡ true) = λ t q. and_parts (not t.fresh) (nests l t.serial t.opening) (all_in (kept l) l a.1 t q) in
     record {
       fitted = λ x. subst (λ (z : Option ℤ). FitSays S x z) (sym (none_at m.values c.0 x)) tt;
-      duty_lives = λ d q. lives_says l d.span (all_in (λ (d : Duty). present l d.span) m.duties b.1 d q);
-      later_lives = λ d q. absurd (no_duty m.later c.1 d q);
+      duty_present = λ d q. present_says l d.span (all_in (λ (d : Duty). present l d.span) m.duties b.1 d q);
+      later_present = λ d q. absurd (no_duty m.later c.1 d q);
       nested = λ t q. nests_says l t.serial t.opening (k t q).1;
       few_serials = few_serials m.rows m.next (rising_below 0 m.rows m.next o);
       bodies = λ t q g p f. absurd (both_ways t.fresh (not-true t.fresh (k t q).0) f);
@@ -111,7 +111,7 @@ begun_ready : (S : Setting) (m : Store) (l : List Span) (ds : List Duty) (n : �
 begun_ready S m l ds n e t f =
     let a : list_all is_none m.values ≡ true = at_none m.values (λ x. ap (λ (w : Work). w.known x) e) in
     let b : eqb (length m.later) 0 ≡ true = ap (λ (w : Work). eqb (length w.later) 0) e in
-    let c : list_all (λ (d : Duty). present l d.span) ds ≡ true = all_from (λ (d : Duty). present l d.span) ds (λ d q. says_lives l d.span (t.duty_lives d q)) in
+    let c : list_all (λ (d : Duty). present l d.span) ds ≡ true = all_from (λ (d : Duty). present l d.span) ds (λ d q. says_present l d.span (t.duty_present d q)) in
     let d : list_all (kept l) l ≡ true = all_from (kept l) l (λ s q. and_from (not s.fresh) (nests l s.serial s.opening) (not_from_false s.fresh (f s q)) (says_nests l s.serial s.opening (t.nested s q))) in
     and_from _ (list_all (kept (map span_of m.rows)) (map span_of m.rows))
     (and_from _ (list_all (λ (d : Duty). present (map span_of m.rows) d.span) m.duties) (and_from (list_all is_none m.values) (eqb (length m.later) 0) a b)
@@ -126,7 +126,7 @@ any_setting = under first_sheet (λ x k. None)
 pub new_ready : (m : Store) → work m ≡ begun [] [] 0 → ready m ≡ true
 new_ready m e =
     begun_ready any_setting m [] [] 0 e
-    (record { fitted = λ x. tt; duty_lives = λ d q. elim q [ ]; later_lives = λ d q. elim q [ ]; nested = λ t q. elim q [ ]; few_serials = λ t q. elim q [ ]; bodies = λ t q. elim q [ ] }) (λ t q. elim q [ ])
+    (record { fitted = λ x. tt; duty_present = λ d q. elim q [ ]; later_present = λ d q. elim q [ ]; nested = λ t q. elim q [ ]; few_serials = λ t q. elim q [ ]; bodies = λ t q. elim q [ ] }) (λ t q. elim q [ ])
 
 -- the whole interval is not fresh
 whole_stale : (t : Span) → t ∈ (whole_span ∷ []) → t.fresh ≡ false
@@ -135,8 +135,8 @@ whole_stale t (there q) = elim q [ ]
 
 -- those of the first state
 pub first_ready : (p : ℕ) (m : Store) → work m ≡ first_work p → ready m ≡ true
-first_ready p m e = begun_ready any_setting m _ _ 1 e (first_tidy p) whole_stale
+first_ready p m e = begun_ready any_setting m _ _ 1 e (first_well_formed p) whole_stale
 
 -- and those of the state after a settled one
 pub next_ready : (S : Setting) → Limits S.sheet → (k : ℕ) (w u : Work) (m : Store) → WellFormed S w → Settles S k w (goes u false) → work m ≡ next_work u → ready m ≡ true
-next_ready S L k w u m t s e = begun_ready S m _ _ u.next e (next_tidy k w u (settles_rest S L k w (goes u false) u s refl t)) (λ x q. (going_in u.ends u.spans x q).stale)
+next_ready S L k w u m t s e = begun_ready S m _ _ u.next e (next_well_formed k w u (settles_rest S L k w (goes u false) u s refl t)) (λ x q. (going_in u.ends u.spans x q).stale)

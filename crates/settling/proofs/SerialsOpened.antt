@@ -15,5 +15,5 @@ pub serials : (S : Setting) (k : ℕ) (w u : Work) (c : Bool) → Settles S k w 
 serials S k w u c s = kept_settles S (Counted w) (counted_kept S w) k w u c s refl
 
 -- which stays low, since a board has few spans
-pub next_young : (S : Setting) (k : ℕ) (b c : Board) → Settles S k (work_of b) (goes (work_of c) false) → b.next ≤ 64 * k + 1 → c.next ≤ 64 * (k + 1) + 1
-next_young S k b c s h = omega (arith, serials S k (work_of b) (work_of c) false s, length-map (vec_items c.rows) span_of, c.rows.ok.0, c.few)
+pub next_few_serials : (S : Setting) (k : ℕ) (b c : Board) → Settles S k (work_of b) (goes (work_of c) false) → b.next ≤ 64 * k + 1 → c.next ≤ 64 * (k + 1) + 1
+next_few_serials S k b c s h = omega (arith, serials S k (work_of b) (work_of c) false s, length-map (vec_items c.rows) span_of, c.rows.ok.0, c.few)

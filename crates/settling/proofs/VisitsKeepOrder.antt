@@ -33,8 +33,8 @@ pub limits_of : (s : Sheet) → Limits (content_of s)
 limits_of s = record { counts = s.counts; variables = s.names; expressions = s.operands; sizes = s.small; statements = s.order; run = s.runs; text = s.short }
 
 -- what moves to a work in order
-tidy_of : {S : Setting} {w u : Work} {c : Bool} → Moves S w Any (goes u c) → WellFormed S u
-tidy_of (moves_on g l t p) = t
+well_formed_of : {S : Setting} {w u : Work} {c : Bool} → Moves S w Any (goes u c) → WellFormed S u
+well_formed_of (moves_on g l t p) = t
 
 -- what an answer of `Ok` says of the work that it leaves
 pub told_ok : (r : Result Visited Stop) (u : Work) (o : Outcome) (P : Type 0) → outcome_of (visit_changed r) u ≡ o → ((c : Bool) → goes u c ≡ o → P) → OnOk r P
@@ -46,10 +46,10 @@ pub back : (n : ℕ) (new old : List ℕ) → n ≡ length new → take n (new +
 back n new old e = ap (λ (z : ℕ). take z (new ++ drop (length new) old)) e ∙ take-append_seam new (drop (length new) old)
 
 -- a visit to a duty of the list keeps the work in order
-pub visit_tidy : (S : Setting) → Limits S.sheet → (k i : ℕ) (d : Duty) (w u : Work) (c : Bool) → WellFormed S w → slice_get w.duties i ≡ Some d → goes u c ≡ visit S k d w → WellFormed S u
-visit_tidy S L k i d w u c t e h =
-    let m : Moves S w Any (visit S k d w) = rule_moves k (length S.sheet.expressions) d.statement d w (statement_at S d.statement) d.number (statement_with_ok S L d.statement) t (t.duty_lives d (nth_in w.duties i d e)) in
-    tidy_of (subst (λ (z : Outcome). Moves S w Any z) (sym h) m)
+pub visit_well_formed : (S : Setting) → Limits S.sheet → (k i : ℕ) (d : Duty) (w u : Work) (c : Bool) → WellFormed S w → slice_get w.duties i ≡ Some d → goes u c ≡ visit S k d w → WellFormed S u
+visit_well_formed S L k i d w u c t e h =
+    let m : Moves S w Any (visit S k d w) = rule_moves k (length S.sheet.expressions) d.statement d w (statement_at S d.statement) d.number (statement_with_ok S L d.statement) t (t.duty_present d (nth_in w.duties i d e)) in
+    well_formed_of (subst (λ (z : Outcome). Moves S w Any z) (sym h) m)
 
 -- and leads to a later one
 pub visit_later : (S : Setting) (k : ℕ) (d : Duty) (w u : Work) (c : Bool) → goes u c ≡ visit S k d w → Extends w u
@@ -114,10 +114,10 @@ span_same t w u c h =
     subst (λ (z : Outcome). OfWork P z) (sym h) (of_opened P (λ p e s v. put_same w.spans p (v.ends s) e s v) (add_same w.spans) t.opening t.serial w refl)
 
 -- a span of the list lives
-pub span_lives : (l : List Span) (i : ℕ) (t : Span) → slice_get l i ≡ Some t → Present l t.serial
-span_lives l i t e = record { span = t; inside = nth_in l i t e; named = refl }
+pub span_present : (l : List Span) (i : ℕ) (t : Span) → slice_get l i ≡ Some t → Present l t.serial
+span_present l i t e = record { span = t; inside = nth_in l i t e; named = refl }
 
 -- a visit to it keeps the work in order
-pub span_tidy : (S : Setting) (i : ℕ) (t : Span) (w u : Work) (c : Bool) → WellFormed S w → slice_get w.spans i ≡ Some t → goes u c ≡ visit_span t w → WellFormed S u
-span_tidy S i t w u c y e h =
-    tidy_of (subst (λ (z : Outcome). Moves S w Any z) (sym h) (opened_moves t.opening t.serial w y (span_lives w.spans i t e) (y.nested t (nth_in w.spans i t e))))
+pub span_well_formed : (S : Setting) (i : ℕ) (t : Span) (w u : Work) (c : Bool) → WellFormed S w → slice_get w.spans i ≡ Some t → goes u c ≡ visit_span t w → WellFormed S u
+span_well_formed S i t w u c y e h =
+    well_formed_of (subst (λ (z : Outcome). Moves S w Any z) (sym h) (opened_moves t.opening t.serial w y (span_present w.spans i t e) (y.nested t (nth_in w.spans i t e))))

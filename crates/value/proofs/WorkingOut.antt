@@ -34,39 +34,39 @@ module _
   lawful = sym (ap (expression_ok (length (vec_items s.tables.variables)) i) stands) ∙ s.operands i inside
 
   -- what is known of its number comes from what is known of its operands
-  pub worth-entry : (values : List (Option ℤ)) (end : End)
+  pub partial_value-entry : (values : List (Option ℤ)) (end : End)
       → partial_value s values end i
       ≡ known (valued (vec_items s.tables.variables) values) end (knowns (valued (vec_items s.tables.variables) values) end (vec_items s.tables.expressions)) e
-  worth-entry values end =
+  partial_value-entry values end =
       let es = vec_items s.tables.expressions in
       let f = valued (vec_items s.tables.variables) values in
       known_entry (length (vec_items s.tables.variables)) es s.operands f end i inside ∙ ap (known f end (knowns f end es)) stands
 
 -- the value that was read for a variable, where it lies in its range, is what is known of the number of an expression that asks for it
-pub variable_worth : (s : Sheet) (values : List (Option ℤ)) (end : End) (i : ℕ) (r : Expression) (x k : ℕ) (v : Variable) (o : Option ℤ) → i < vec_len s.tables.expressions
+pub variable_partial_value : (s : Sheet) (values : List (Option ℤ)) (end : End) (i : ℕ) (r : Expression) (x k : ℕ) (v : Variable) (o : Option ℤ) → i < vec_len s.tables.expressions
     → r ≡ get_or (vec_items s.tables.expressions) i r → r ≡ Val x → k ≡ x → v ≡ get_or (vec_items s.tables.variables) k v → o ≡ get_or values k None
     → within_range v o ≡ partial_value s values end i
-variable_worth s values end i r x k v o there read is place known given =
+variable_partial_value s values end i r x k v o there read is place known given =
     let vs = vec_items s.tables.variables in
     let l = ltb-true x (length vs) (lawful s i r (Val x) there read is) in
     let at : v ≡ variable_at vs x = get_or_read vs x v l (known ∙ ap (λ (j : ℕ). get_or vs j v) place) no_variable in
     ap (within_range v) (given ∙ ap (λ (j : ℕ). get_or values j None) place) ∙ ap (λ (y : Variable). within_range y (get_or values x None)) at
-    ∙ sym (worth-entry s i r (Val x) there read is values end)
+    ∙ sym (partial_value-entry s i r (Val x) there read is values end)
 
 -- no number leaves ±1,000,000,000
-pub worth_within : (s : Sheet) (values : List (Option ℤ)) (end : End) (i : ℕ) (r : Option ℤ) → r ≡ partial_value s values end i → WithinBound 1000000000 r
-worth_within s values end i r p =
+pub partial_value_within : (s : Sheet) (values : List (Option ℤ)) (end : End) (i : ℕ) (r : Option ℤ) → r ≡ partial_value s values end i → WithinBound 1000000000 r
+partial_value_within s values end i r p =
     subst (WithinBound 1000000000) (sym p) (known_within (vec_items s.tables.variables) (vec_items s.tables.expressions) s.small values end i)
 
 -- so a known number fits 64 bits, and is kept as it is
-pub worth_kept : (s : Sheet) (values : List (Option ℤ)) (end : End) (i : ℕ) (z : ℤ) → Some z ≡ partial_value s values end i → Some (to_z w64 (of_z w64 z)) ≡ partial_value s values end i
-worth_kept s values end i z e =
-    let h : nat_abs z ≤ 1000000000 = worth_within s values end i (Some z) e in
+pub partial_value_kept : (s : Sheet) (values : List (Option ℤ)) (end : End) (i : ℕ) (z : ℤ) → Some z ≡ partial_value s values end i → Some (to_z w64 (of_z w64 z)) ≡ partial_value s values end i
+partial_value_kept s values end i z e =
+    let h : nat_abs z ≤ 1000000000 = partial_value_within s values end i (Some z) e in
     ap (λ (y : ℤ). Some y) (to_z-of_z w64 z (abs_fits z (omega arith))) ∙ e
 
 -- where all is known, so is the number
-pub worth_total : (s : Sheet) (values : List (Option ℤ)) (end : End) (i : ℕ) (r : Option ℤ) → r ≡ partial_value s values end i → TotalWhenKnown s values end i r
-worth_total s values end i r p ρ last hv he =
+pub partial_value_total : (s : Sheet) (values : List (Option ℤ)) (end : End) (i : ℕ) (r : Option ℤ) → r ≡ partial_value s values end i → TotalWhenKnown s values end i r
+partial_value_total s values end i r p ρ last hv he =
     p ∙ known_total (length (vec_items s.tables.variables)) (vec_items s.tables.expressions) s.operands (valued (vec_items s.tables.variables) values) end ρ last hv he i
 
 -- an operator makes of two known numbers what is known of the pair

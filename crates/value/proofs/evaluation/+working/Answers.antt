@@ -6,7 +6,7 @@ use Rattle.value.specs.AtOnce.{partial_value_in, asks}
 use Rattle.value.specs.Memory.{AllRight}
 use Rattle.value.proofs.Numbers.{pair_lower}
 use Rattle.value.proofs.AtOnce.{result_ok-tells, asks_not}
-use Rattle.value.proofs.WorkingOut.{stands, lawful, worth-entry, worth_within, worth_kept, pair_known, filled_right}
+use Rattle.value.proofs.WorkingOut.{stands, lawful, partial_value-entry, partial_value_within, partial_value_kept, pair_known, filled_right}
 use Rattle.value.proofs.evaluation.+working.Goals as goal
 use Rattle.value.proofs.evaluation.+working.Goals.{worked-in-Pair+in_ok-x-in-Pair+in_ok-y-in-Pair, worked-in-Not+in_ok-operand-in-Not}
 
@@ -15,7 +15,7 @@ worked-returns-in_err-x-in-Pair-clause-answer t c =
     let g = partial_value_in c.args.scene.now in
     let p = c.in-Pair in
     c.from_residual.ensures ∙ ap (λ (y : Option ℤ). map_both_known (apply p.o) y (g p.b)) (c.in_err-x-in-Pair.ensures.answer ∙ ap g c.from.ensures)
-    ∙ sym (worth-entry c.args.scene.now.known.sheet.now c.args.number c.index.result.now (Pair p.o p.a p.b) c.requires.there c.index.ensures p.is c.args.scene.now.known.values.now c.args.scene.now.end)
+    ∙ sym (partial_value-entry c.args.scene.now.known.sheet.now c.args.number c.index.result.now (Pair p.o p.a p.b) c.requires.there c.index.ensures p.is c.args.scene.now.known.values.now c.args.scene.now.end)
 
 pub worked-returns-in_err-y-in-Pair-clause-answer : goal.worked-returns-in_err-y-in-Pair-clause-answer
 worked-returns-in_err-y-in-Pair-clause-answer t c =
@@ -23,7 +23,7 @@ worked-returns-in_err-y-in-Pair-clause-answer t c =
     let p = c.in-Pair in
     c.from_residual-in_err-y-in-Pair.ensures ∙ ap (map_both_known (apply p.o) (Some c.in_ok-x-in-Pair.x)) (c.in_err-y-in-Pair.ensures.answer ∙ ap g c.from-in-Pair.ensures)
     ∙ ap (λ (y : Option ℤ). map_both_known (apply p.o) y (g p.b)) (c.in_ok-x-in-Pair.ensures.answer ∙ ap g c.from.ensures)
-    ∙ sym (worth-entry c.args.scene.now.known.sheet.now c.args.number c.index.result.now (Pair p.o p.a p.b) c.requires.there c.index.ensures p.is c.args.scene.now.known.values.now c.args.scene.now.end)
+    ∙ sym (partial_value-entry c.args.scene.now.known.sheet.now c.args.number c.index.result.now (Pair p.o p.a p.b) c.requires.there c.index.ensures p.is c.args.scene.now.known.values.now c.args.scene.now.end)
 
 pub worked-operand-requires-in-Pair : goal.worked-operand-requires-in-Pair
 worked-operand-requires-in-Pair t c =
@@ -45,19 +45,19 @@ worked-applied-z-requires t c =
     let y = c.in_ok-y-in-Pair.y in
     let i = c.from.result in
     let j = c.from-in-Pair.result in (
-      worth_within s vs end i (Some (to_z w64 (of_z w64 x))) (worth_kept s vs end i x c.in_ok-x-in-Pair.ensures.answer),
-      worth_within s vs end j (Some (to_z w64 (of_z w64 y))) (worth_kept s vs end j y c.in_ok-y-in-Pair.ensures.answer),
+      partial_value_within s vs end i (Some (to_z w64 (of_z w64 x))) (partial_value_kept s vs end i x c.in_ok-x-in-Pair.ensures.answer),
+      partial_value_within s vs end j (Some (to_z w64 (of_z w64 y))) (partial_value_kept s vs end j y c.in_ok-y-in-Pair.ensures.answer),
     )
 
 pub worked-returns-in_err-operand-in-Not-clause-answer : goal.worked-returns-in_err-operand-in-Not-clause-answer
 worked-returns-in_err-operand-in-Not-clause-answer t c =
     c.from_residual-in_err-operand-in-Not.ensures ∙ ap (map_known negation) (c.in_err-operand-in-Not.ensures.answer ∙ ap (partial_value_in c.args.scene.now) c.from-in-Not.ensures)
-    ∙ sym (worth-entry c.args.scene.now.known.sheet.now c.args.number c.index.result.now (Not c.in-Not.a) c.requires.there c.index.ensures c.in-Not.is c.args.scene.now.known.values.now c.args.scene.now.end)
+    ∙ sym (partial_value-entry c.args.scene.now.known.sheet.now c.args.number c.index.result.now (Not c.in-Not.a) c.requires.there c.index.ensures c.in-Not.is c.args.scene.now.known.values.now c.args.scene.now.end)
 
 pub worked-returns-in-Last-clause-answer : goal.worked-returns-in-Last-clause-answer
 worked-returns-in-Last-clause-answer t c =
     c.ended.ensures
-    ∙ sym (worth-entry c.args.scene.now.known.sheet.now c.args.number c.index.result.now Last c.requires.there c.index.ensures c.in-Last.is c.args.scene.now.known.values.now c.args.scene.now.end)
+    ∙ sym (partial_value-entry c.args.scene.now.known.sheet.now c.args.number c.index.result.now Last c.requires.there c.index.ensures c.in-Last.is c.args.scene.now.known.values.now c.args.scene.now.end)
 
 pub worked-returns-in_default-clause-answer : goal.worked-returns-in_default-clause-answer
 worked-returns-in_default-clause-answer t c =
@@ -76,7 +76,7 @@ worked-returns t c =
     let g = partial_value_in c.args.scene.now in
     let m = c.match-index.memo in
     let z = to_z w64 c.match-index.z-bits in
-    let kept = worth_kept s vs end in
+    let kept = partial_value_kept s vs end in
     let both : (Some z ≡ g i) × ((n : ℕ) → AllRight g n c.args.memo.now → AllRight g n m) = elim c.match-index.branch [
       | worked-in-Pair+in_ok-x-in-Pair+in_ok-y-in-Pair w ↦
           let p = w.in-Pair in
@@ -86,14 +86,14 @@ worked-returns t c =
           let h = kept w.from-in-Pair.result y w.in_ok-y-in-Pair.ensures.answer ∙ ap g w.from-in-Pair.ensures in (
             ap (λ (y : ℤ). Some y) w.z-is
                 ∙ kept i w.applied-z.result (pair_known p.o (to_z w64 (of_z w64 x)) (to_z w64 (of_z w64 y)) w.applied-z.result (g p.a) (g p.b) w.applied-z.ensures f h
-                ∙ sym (worth-entry s i e (Pair p.o p.a p.b) c.requires.there c.index.ensures p.is vs end)),
+                ∙ sym (partial_value-entry s i e (Pair p.o p.a p.b) c.requires.there c.index.ensures p.is vs end)),
             λ n all. subst (AllRight g n) (sym w.memo-is) (w.operand-in-Pair.ensures.right n (w.operand.ensures.right n all)),
           )
       | worked-in-Not+in_ok-operand-in-Not w ↦
           let f = kept w.from-in-Not.result w.in_ok-operand-in-Not.field-0 w.in_ok-operand-in-Not.ensures.answer ∙ ap g w.from-in-Not.ensures in (
             ap (λ (y : ℤ). Some y) w.z-is
                 ∙ kept i w.negated-z.result (ap (λ (y : ℤ). Some y) w.negated-z.ensures ∙ ap (map_known negation) f
-                ∙ sym (worth-entry s i e (Not w.in-Not.a) c.requires.there c.index.ensures w.in-Not.is vs end)),
+                ∙ sym (partial_value-entry s i e (Not w.in-Not.a) c.requires.there c.index.ensures w.in-Not.is vs end)),
             λ n all. subst (AllRight g n) (sym w.memo-is) (w.operand-in-Not.ensures.right n all),
           )
     ] in

@@ -3,7 +3,7 @@ use Rattle.std.proofs.Common.{◌≤◌, length, pos, Some, vec_items, sym, ap, 
 use Rattle.value.specs.Values.{known, valued}
 use Rattle.value.specs.Evaluating.{partial_value}
 use Rattle.value.proofs.EntryByEntry.{table_past}
-use Rattle.value.proofs.WorkingOut.{worth_within, worth_total}
+use Rattle.value.proofs.WorkingOut.{partial_value_within, partial_value_total}
 use Rattle.value.proofs.evaluation.evaluate.Goals as goal
 
 pub returns-then-place-len : goal.returns-then-place-len
@@ -12,7 +12,7 @@ returns-then-place-len c =
     let es = vec_items s.tables.expressions in
     let h : length es ≤ c.args.number = omega (arith, s.tables.expressions.ok.0) in
     let a = sym (table_past (known (valued (vec_items s.tables.variables) c.args.values.now) c.args.end) (Some (pos 0)) es c.args.number h) in
-    record { answer = a; total = worth_total s c.args.values.now c.args.end c.args.number (Some (pos 0)) a; bound = omega arith }
+    record { answer = a; total = partial_value_total s c.args.values.now c.args.end c.args.number (Some (pos 0)) a; bound = omega arith }
 
 pub returns : goal.returns
 returns c =
@@ -22,4 +22,4 @@ returns c =
     let i = c.args.number in
     let r = c.worked.result in
     let a = c.worked.ensures.answer ∙ ap (partial_value s vs end) c.from-place.ensures in
-    record { answer = a; total = worth_total s vs end i r a; bound = worth_within s vs end i r a }
+    record { answer = a; total = partial_value_total s vs end i r a; bound = partial_value_within s vs end i r a }

@@ -6,12 +6,12 @@ use Rattle.meaning.specs.Rules.{visit}
 use Rattle.meaning.proofs.Lists.{nth_in}
 use Rattle.board.specs.Work.{work_of}
 use Rattle.settling.specs.Passing.{setting_of}
-use Rattle.settling.proofs.VisitsKeepOrder.{limits_of, told_ok, visit_later, visit_tidy}
+use Rattle.settling.proofs.VisitsKeepOrder.{limits_of, told_ok, visit_later, visit_well_formed}
 use Rattle.settling.proofs.InVain.{duty_vain}
 use Rattle.settling.proofs.duties.PassVisitorDuty.visit.Goals as goal
 
 pub visit_duty-requires-clause-present : goal.visit_duty-requires-clause-present
-visit_duty-requires-clause-present g c = c.requires.well_formed.2.duty_lives c.args.item (nth_in (work_of c.args.board.now).duties c.requires.there.0 c.args.item c.requires.there.1)
+visit_duty-requires-clause-present g c = c.requires.well_formed.2.duty_present c.args.item (nth_in (work_of c.args.board.now).duties c.requires.there.0 c.args.item c.requires.there.1)
 
 pub visit_duty-requires-clause-fitted : goal.visit_duty-requires-clause-fitted
 visit_duty-requires-clause-fitted g c = λ f. (subst (λ S. WellFormed S (work_of c.args.board.now)) c.requires.well_formed.1 c.requires.well_formed.2).fitted
@@ -24,7 +24,7 @@ returns-clause-leaves g c =
     let u = work_of c.visit_duty.new.board in
     told_ok c.visit_duty.result u (visit R p.state c.args.item w) _ c.visit_duty.ensures.visited
     (λ b e. record {
-      well_formed = λ S m. subst (λ (z : Setting). WellFormed z w → WellFormed z u) (sym m) (λ t. visit_tidy R (limits_of p.sheet.now) p.state c.requires.there.0 c.args.item w u b t c.requires.there.1 e);
+      well_formed = λ S m. subst (λ (z : Setting). WellFormed z w → WellFormed z u) (sym m) (λ t. visit_well_formed R (limits_of p.sheet.now) p.state c.requires.there.0 c.args.item w u b t c.requires.there.1 e);
       later = visit_later R p.state c.args.item w u b e;
     })
 
