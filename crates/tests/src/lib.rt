@@ -1,7 +1,7 @@
 #![tactic(auto)]
 
 // Tests of loading, of evaluation, of recorders and feeds, of tables of examples, and of what is read and written, most at the edges of their rules.
-// They stand apart, so that no other crate is proved twice.
+// They stand apart, since a crate with tests is proved twice. Only `embed` has its own: no crate can depend on a static library.
 #[cfg(test)]
 mod answer_texts;
 #[cfg(test)]
