@@ -1,10 +1,11 @@
 // Operations: the words that name them, what their operands stand for, and what is made of them.
 ghost use Rattle.std.specs.Prelude.{◌≡◌, ℕ, List, None, Some, Option};
 ghost use Rattle.lines.specs.Lines.{word_list};
-ghost use Rattle.lines.specs.Operations.{Roles, Operands, roles as given, expression_named, statement_named, expression_roles, statement_roles, expression_with, statement_with};
+ghost use Rattle.lines.specs.Operations.{Roles, Operands, roles as given, expression_named, statement_named, bare_expression as bare_expression_named, single_expression as single_expression_named, double_expression as double_expression_named, bare_statement as bare_statement_named, single_statement as single_statement_named, double_statement as double_statement_named, triple_statement as triple_statement_named, expression_roles, statement_roles, expression_with, statement_with};
 
 use crate::items::{OperandSlots, Operands, Role, Roles, Words};
 use sheet::{Expression, Operator, Statement};
+use text::same;
 
 impl Roles {
     // No operand.
@@ -56,6 +57,52 @@ pub(crate) trait Operation: Copy {
         ensures { result ≡ with self o };
 }
 
+// Expressions with no operand, with one, with two, by the word that names them.
+fn bare_expression(op: &[u8]) -> Option<Expression>
+    ensures { result ≡ bare_expression_named op.now }
+{
+    if same(op, b"last") {
+        Some(Expression::Last)
+    } else {
+        None
+    }
+}
+
+fn single_expression(op: &[u8]) -> Option<Expression>
+    ensures { result ≡ single_expression_named op.now }
+{
+    if same(op, b"val") {
+        Some(Expression::Val(0))
+    } else if same(op, b"not") {
+        Some(Expression::Not(0))
+    } else {
+        None
+    }
+}
+
+fn double_expression(op: &[u8]) -> Option<Expression>
+    ensures { result ≡ double_expression_named op.now }
+{
+    let operator = if same(op, b"add") {
+        Operator::Add
+    } else if same(op, b"sub") {
+        Operator::Sub
+    } else if same(op, b"mul") {
+        Operator::Mul
+    } else if same(op, b"eq") {
+        Operator::Eq
+    } else if same(op, b"lt") {
+        Operator::Lt
+    } else if same(op, b"both") {
+        Operator::Both
+    } else if same(op, b"either") {
+        Operator::Either
+    } else {
+        return None;
+    };
+    Some(Expression::Pair(operator, 0, 0))
+}
+
 impl Operation for Expression {
     ghost named = { expression_named };
 
@@ -65,16 +112,9 @@ impl Operation for Expression {
 
     fn named(words: Words) -> Option<Expression> {
         match words {
-            Words::One(b"last") => Some(Expression::Last),
-            Words::Two(b"val", _) => Some(Expression::Val(0)),
-            Words::Two(b"not", _) => Some(Expression::Not(0)),
-            Words::Three(b"add", _, _) => Some(Expression::Pair(Operator::Add, 0, 0)),
-            Words::Three(b"sub", _, _) => Some(Expression::Pair(Operator::Sub, 0, 0)),
-            Words::Three(b"mul", _, _) => Some(Expression::Pair(Operator::Mul, 0, 0)),
-            Words::Three(b"eq", _, _) => Some(Expression::Pair(Operator::Eq, 0, 0)),
-            Words::Three(b"lt", _, _) => Some(Expression::Pair(Operator::Lt, 0, 0)),
-            Words::Three(b"both", _, _) => Some(Expression::Pair(Operator::Both, 0, 0)),
-            Words::Three(b"either", _, _) => Some(Expression::Pair(Operator::Either, 0, 0)),
+            Words::One(op) => bare_expression(op),
+            Words::Two(op, _) => single_expression(op),
+            Words::Three(op, _, _) => double_expression(op),
             _ => None,
         }
     }
@@ -98,6 +138,71 @@ impl Operation for Expression {
     }
 }
 
+// Statements with no operand, with one, with two, with three, by the word that names them.
+fn bare_statement(op: &[u8]) -> Option<Statement>
+    ensures { result ≡ bare_statement_named op.now }
+{
+    if same(op, b"true") {
+        Some(Statement::True)
+    } else if same(op, b"false") {
+        Some(Statement::False)
+    } else if same(op, b"empty") {
+        Some(Statement::Empty)
+    } else if same(op, b"more") {
+        Some(Statement::More)
+    } else {
+        None
+    }
+}
+
+fn single_statement(op: &[u8]) -> Option<Statement>
+    ensures { result ≡ single_statement_named op.now }
+{
+    if same(op, b"next") {
+        Some(Statement::Next(0))
+    } else if same(op, b"always") {
+        Some(Statement::Always(0))
+    } else if same(op, b"halt") {
+        Some(Statement::Halt(0))
+    } else if same(op, b"len") {
+        Some(Statement::Len(0))
+    } else if same(op, b"request") {
+        Some(Statement::Request(0))
+    } else {
+        None
+    }
+}
+
+fn double_statement(op: &[u8]) -> Option<Statement>
+    ensures { result ≡ double_statement_named op.now }
+{
+    if same(op, b"is") {
+        Some(Statement::Is(0, 0))
+    } else if same(op, b"and") {
+        Some(Statement::And(0, 0))
+    } else if same(op, b"gets") {
+        Some(Statement::Gets(0, 0))
+    } else if same(op, b"chop") {
+        Some(Statement::Chop(0, 0))
+    } else if same(op, b"for") {
+        Some(Statement::For(0, 0))
+    } else if same(op, b"while") {
+        Some(Statement::While(0, 0))
+    } else {
+        None
+    }
+}
+
+fn triple_statement(op: &[u8]) -> Option<Statement>
+    ensures { result ≡ triple_statement_named op.now }
+{
+    if same(op, b"if") {
+        Some(Statement::If(0, 0, 0))
+    } else {
+        None
+    }
+}
+
 impl Operation for Statement {
     ghost named = { statement_named };
 
@@ -107,23 +212,10 @@ impl Operation for Statement {
 
     fn named(words: Words) -> Option<Statement> {
         match words {
-            Words::One(b"true") => Some(Statement::True),
-            Words::One(b"false") => Some(Statement::False),
-            Words::One(b"empty") => Some(Statement::Empty),
-            Words::One(b"more") => Some(Statement::More),
-            Words::Two(b"next", _) => Some(Statement::Next(0)),
-            Words::Two(b"always", _) => Some(Statement::Always(0)),
-            Words::Two(b"halt", _) => Some(Statement::Halt(0)),
-            Words::Two(b"len", _) => Some(Statement::Len(0)),
-            Words::Two(b"request", _) => Some(Statement::Request(0)),
-            Words::Three(b"is", _, _) => Some(Statement::Is(0, 0)),
-            Words::Three(b"and", _, _) => Some(Statement::And(0, 0)),
-            Words::Three(b"gets", _, _) => Some(Statement::Gets(0, 0)),
-            Words::Three(b"chop", _, _) => Some(Statement::Chop(0, 0)),
-            Words::Three(b"for", _, _) => Some(Statement::For(0, 0)),
-            Words::Three(b"while", _, _) => Some(Statement::While(0, 0)),
-            Words::Four(b"if", _, _, _) => Some(Statement::If(0, 0, 0)),
-            _ => None,
+            Words::One(op) => bare_statement(op),
+            Words::Two(op, _) => single_statement(op),
+            Words::Three(op, _, _) => double_statement(op),
+            Words::Four(op, _, _, _) => triple_statement(op),
         }
     }
 
