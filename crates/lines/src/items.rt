@@ -23,7 +23,7 @@ pub enum Fault {
 }
 
 // The key of a line: the word ahead of its first `=`. Others would call it a keyword.
-#[derive(Clone, Copy, Debug, PartialEq, Eq)]
+#[derive(Clone, Copy)]
 pub enum Keyword {
     Sheet,
     Var,
@@ -33,7 +33,7 @@ pub enum Keyword {
 }
 
 // What an operand's word stands for.
-#[derive(Clone, Copy, Debug, PartialEq, Eq)]
+#[derive(Clone, Copy)]
 pub enum Role {
     Variable,
     Expression,
@@ -41,7 +41,7 @@ pub enum Role {
 }
 
 // One thing for each of the three words after an operation.
-#[derive(Clone, Copy, Debug, PartialEq, Eq)]
+#[derive(Clone, Copy)]
 pub struct OperandSlots<T> {
     pub first: T,
     pub second: T,
@@ -68,7 +68,7 @@ pub type Roles = OperandSlots<Option<Role>>;
 pub type Operands = OperandSlots<u16>;
 
 // The words of a line, one to four, as parts of the line itself.
-#[derive(Clone, Copy, Debug, PartialEq, Eq)]
+#[derive(Clone, Copy)]
 pub enum Words<'a> {
     One(&'a [u8]),
     Two(&'a [u8], &'a [u8]),

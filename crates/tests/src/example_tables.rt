@@ -62,38 +62,29 @@ fn malformed(table: &[u8]) -> usize {
     }
 }
 
-// A block without a name or closing lines is malformed, and so is one with parts in another order.
+// A block without a name or closing lines is malformed, and so is one with parts in another order, or with a line that spells no reading.
 #[test]
 fn blocks(rt: HostRuntime) {
-    assert_eq!(rt; malformed(b"sheet=2\nverdict=open\n"), 1);
-    assert_eq!(rt; malformed(b"\n\nexample=a\nsheet=2\n\n"), 5);
-    assert_eq!(rt;
-        malformed(b"example=a\nsheet=2\nrecord=0\nreading=0 0 1\nverdict=open\n"),
-        4
-    );
-    assert_eq!(rt;
-        malformed(b"example=a\nsheet=2\nverdict=open\nexample=b\n"),
-        4
-    );
-    assert_eq!(rt; malformed(b"example=a\ntext=\n"), 3);
-    assert_eq!(rt;
-        malformed(b"example=a\ntext=\nanswer=1 0 0\nverdict=open\n"),
-        4
-    );
-    assert_eq!(rt; malformed(b"example=a\nanswer=1 0 0\n"), 2);
-}
-
-// A line that spells no reading is malformed.
-#[test]
-fn readings(rt: HostRuntime) {
-    assert_eq!(rt;
-        malformed(b"example=a\nsheet=2\nreading=0 0 6\nreading=0 0\nverdict=open\n"),
-        4
-    );
-    assert_eq!(rt;
-        malformed(b"example=a\nsheet=2\nreading=0 0 +1\nverdict=open\n"),
-        3
-    );
+    let rows: [(&[u8], usize); 9] = [
+        (b"sheet=2\nverdict=open\n", 1),
+        (b"\n\nexample=a\nsheet=2\n\n", 5),
+        (
+            b"example=a\nsheet=2\nrecord=0\nreading=0 0 1\nverdict=open\n",
+            4,
+        ),
+        (b"example=a\nsheet=2\nverdict=open\nexample=b\n", 4),
+        (b"example=a\ntext=\n", 3),
+        (b"example=a\ntext=\nanswer=1 0 0\nverdict=open\n", 4),
+        (b"example=a\nanswer=1 0 0\n", 2),
+        (
+            b"example=a\nsheet=2\nreading=0 0 6\nreading=0 0\nverdict=open\n",
+            4,
+        ),
+        (b"example=a\nsheet=2\nreading=0 0 +1\nverdict=open\n", 3),
+    ];
+    for (table, line) in &rows {
+        assert_eq!(rt; malformed(table), *line);
+    }
 }
 
 // After a malformed example the next one is read.

@@ -2,10 +2,9 @@
 
 // Tests of loading, of evaluation, of recorders and feeds, of tables of examples, and of what is read and written, most at the edges of their rules.
 // They stand apart, since a crate with tests is proved twice. Only `embed` has its own: no crate can depend on a static library.
+// Texts with their answers, and sheets with what comes of them, are no tests but rows of the tables of `examples`.
 #[cfg(test)]
 mod answer_texts;
-#[cfg(test)]
-mod building;
 #[cfg(test)]
 mod closings;
 #[cfg(test)]
@@ -15,11 +14,7 @@ mod feeds;
 #[cfg(test)]
 mod holding;
 #[cfg(test)]
-mod keys;
-#[cfg(test)]
 mod numbers;
-#[cfg(test)]
-mod operators;
 #[cfg(test)]
 mod reading;
 #[cfg(test)]
@@ -32,7 +27,3 @@ mod searching;
 mod stops;
 #[cfg(test)]
 mod tables;
-#[cfg(test)]
-mod texts;
-#[cfg(test)]
-mod words;
