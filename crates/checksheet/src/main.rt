@@ -4,10 +4,7 @@
 //     checksheet FILE    the text of this file
 #![tactic(auto)]
 
-mod refused;
-
-use crate::refused::Refused;
-use load::{ENOUGH, Loader};
+use load::{ENOUGH, Loader, RefusalLines};
 use std::io::{Read, Write};
 use std::process::ExitCode;
 use std::{env, fs, io};
@@ -45,7 +42,7 @@ fn check_text(rt: &HostRuntime, text: &[u8]) -> io::Result<()> {
     let mut loader = Loader::new(rt.alloc())?;
     match loader.load(text) {
         Ok(()) => show_sheet(rt, &mut loader, text),
-        Err(refusal) => print!(rt; "{}", Refused { refusal }),
+        Err(refusal) => print!(rt; "{}", RefusalLines { refusal }),
     }
 }
 

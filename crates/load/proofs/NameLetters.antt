@@ -2,7 +2,7 @@
 use Rattle.std.proofs.Common.{◌≡◌, ℕ, zero, suc, ◌-◌, ◌<◌, ◌≤◌, Bool, true, false, cond, not, ◌&&◌, ltb, leb, List, [], ◌∷◌, ◌++◌, length, get_or, take, replicate, is_some, Some, None, Option, sym, refl, ap, ◌∙◌, subst, arith}
 use Rattle.std.specs.Str.{bytes_eq}
 use Rattle.std.proofs.lemmas.Slice.Eq.{bytes_eq-Decides}
-use Rattle.std.proofs.lemmas.Bool.{and_parts, ne_eqb, leb-true, ltb-true, lt-ltb, cond-true, cond-false, not-true}
+use Rattle.std.proofs.lemmas.Bool.{and_parts, ne_eqb, leb-true, ltb-true, lt-ltb, cond-true, not-true}
 use Rattle.text.specs.Cut.{before}
 use Rattle.std.specs.List.{position, position_or_len}
 use Rattle.std.proofs.lemmas.List.Sums.{passes_at_first, fails_before_first, position_or_len_is}
@@ -14,7 +14,7 @@ use Rattle.sheet.specs.SheetText.{name_of_variable}
 use Rattle.sheet.specs.Limits.{letter, letters, proper, name_filled, name_ok, name_of, declared, variable_ok, VariablesOk}
 use Rattle.sheet.specs.PartialSheet.{PartialSheet}
 use Rattle.lines.specs.Lines.{number_by}
-use Rattle.load.proofs.UpToFirstFault.{clash_none, same_some, if_some}
+use Rattle.load.proofs.UpToFirstFault.{clash_none, if_some}
 
 -- ---- a word's name, and the word of a name
 before-zeros : (w : List ℕ) (k : ℕ) → letters w ≡ true → before 0 (w ++ replicate k 0) ≡ w

@@ -1,5 +1,5 @@
--- What is told of a refusal: its published number with its line and word, and a plain sentence. Assumes nothing.
-use Rattle.std.specs.Prelude.{ℕ, List, ◌∷◌, ◌++◌, codes, decimal}
+-- What is told of a refusal: its published number with its line and word, a plain sentence, and both as lines. Assumes nothing.
+use Rattle.std.specs.Prelude.{ℕ, List, [], ◌∷◌, ◌++◌, codes, decimal}
 use Rattle.lines.specs.declared.items.Fault.{Fault}
 use Rattle.lines.specs.declared.items.Fault.TheVariants.{Long, Key, Many, Form, Number, Name, Operand, Size}
 use Rattle.lines.specs.Faults.{number_of_fault, word_of_fault}
@@ -41,3 +41,9 @@ sentence Unended = codes "The sheet does not end with a line end; add one after 
 sentence Header = codes "The first line must be exactly: sheet=2"
 sentence (Line n f) = fault_sentence f
 sentence (NoRun n) = codes "The sheet ends without a run line."
+
+-- the lines that are printed of a refusal, each with the byte 10 at its end: the published number, the line and the word that are meant, or 0, and the sentence to read out
+abbrev pub refused_lines : Refusal → List ℕ
+refused_lines r =
+    codes "refused=" ++ decimal (published_refusal r).number ++ 10 ∷ codes "line=" ++ decimal (published_refusal r).line ++ 10 ∷ codes "word=" ++ decimal (published_refusal r).word
+    ++ 10 ∷ codes "reason=" ++ sentence r ++ 10 ∷ []
