@@ -62,6 +62,10 @@ module _ {T : Type 0} (items : Work → List T) (visited : T → Work → Outcom
   pub over_skip : (n i j : ℕ) (w : Work) (skips : List ℕ) → SkippedBy items visited w skips → i ≤ j → j ≤ i + get_or skips i 0 → j < n → visit_from items visited (n - i) i w ≡ visit_from items visited (n - j) j w
   over_skip n i j w skips h a b l = from_row (j - i) n i j w (omega (arith, a)) l (λ k x y. h i k x (omega (arith, y, b)))
 
+  -- skips of nothing are right
+  pub skips_none : (w : Work) (skips : List ℕ) → ((k : ℕ) → get_or skips k 0 ≡ 0) → SkippedBy items visited w skips
+  skips_none w skips h i j a b = absurd (omega (arith, a, b, h i))
+
   -- what the visits from place i on come to, those from where the skip leads come to
   pub from_skip : (n i j : ℕ) (w : Work) (skips : List ℕ) (a : Bool) (o : Outcome) → SkippedBy items visited w skips → j ≡ i + get_or skips i 0 → j < n → also a (visit_from items visited (n - i) i w) ≡ o → also a (visit_from items visited (n - j) j w) ≡ o
   from_skip n i j w skips a o h e l q = sym (ap (also a) (over_skip n i j w skips h (omega (arith, e)) (omega (arith, e)) l)) ∙ q

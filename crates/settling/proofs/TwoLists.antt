@@ -1,16 +1,28 @@
 -- The visits to duties and to spans, as the visits to one list.
-use Rattle.std.proofs.Common.{◌≡◌, ℕ, zero, suc, ◌+◌, ◌<◌, ◌≤◌, Bool, List, [], ◌∷◌, length, drop, Some, None, Option, sym, refl, ap, ◌∙◌, arith}
+use Rattle.std.proofs.Common.{◌≡◌, ℕ, zero, suc, ◌+◌, ◌<◌, ◌≤◌, Bool, Result, Ok, Err, OnOk, List, [], ◌∷◌, length, drop, Some, None, Option, sym, refl, ap, ◌∙◌, arith}
 use mathlib.Core.Path.{fun_ext}
 use Rattle.std.specs.List.{slice_get}
 use Rattle.meaning.specs.declared.duties.Duty.{Duty}
 use Rattle.meaning.specs.declared.duties.Span.{Span}
+use Rattle.meaning.specs.declared.duties.Stop.{Stop}
 use Rattle.meaning.specs.Intervals.{Setting}
 use Rattle.meaning.specs.Work.{Work, Outcome, stops, goes, also, and_then}
 use Rattle.meaning.specs.Rules.{visit, visit_span}
 use Rattle.meaning.specs.Passes.{pass_fuel, visit_or, visit_duties, visit_spans}
 use Rattle.meaning.proofs.Lists.{none_some, nth_within}
+use Rattle.board.specs.Outcomes.{outcome_of, afterwards}
 use Rattle.settling.specs.Walks.{visit_one, visit_from}
 use Rattle.settling.proofs.VisitsKeepOrder.{span_same}
+
+-- an answer where something has changed before tells the same of an outcome
+pub told_afterwards : (b : Bool) (r : Result Bool Stop) (u : Work) → outcome_of (afterwards b r) u ≡ also b (outcome_of r u)
+told_afterwards b (Ok c) u = refl
+told_afterwards b (Err s) u = refl
+
+-- and the same facts hold on it
+pub on_afterwards : (P : Type 0) (b : Bool) (r : Result Bool Stop) → OnOk r P → OnOk (afterwards b r) P
+on_afterwards P b (Ok c) h = h
+on_afterwards P b (Err s) h = tt
 
 -- the fuel of a pass is one more than the most duties
 pub fuel_is : pass_fuel ≡ 513

@@ -1,6 +1,11 @@
 -- The spans are visited after the duties, and the skips on both stay right meanwhile.
-use Rattle.std.proofs.Common.{rules, ℕ, List, OnOk, sym, subst, arith}
-use Rattle.std.proofs.lemmas.Result.{on_ok_weaker}
+use Rattle.std.proofs.Common.{ℕ, Bool, List, Result, OnOk, sym, ap, ◌∙◌, subst, arith}
+use Rattle.std.proofs.lemmas.Result.{on_ok_weaker, err_from_is_err_and}
+use Rattle.meaning.specs.declared.duties.Stop.{Stop}
+use Rattle.meaning.specs.Work.{Outcome, also, and_then}
+use Rattle.meaning.specs.Passes.{visit_spans}
+use Rattle.board.specs.Outcomes.{outcome_of}
+use Rattle.settling.proofs.TwoLists.{told_afterwards, on_afterwards}
 use Rattle.meaning.specs.Rules.{visit, visit_span}
 use Rattle.board.specs.Work.{work_of}
 use Rattle.settling.specs.Passing.{setting_of}
@@ -29,11 +34,24 @@ returns-clause-skipped g c =
     let skips = c.visit_duties.new.skips in
     let m = subst (λ (z : List ℕ). Skipped S p.state u z) (sym (back v.len skips v.items (omega (arith, c.visit_duties.auto.skips, c.deref_mut.ensures.len)))) c.in_ok-changed.ensures.skipped in
     let h = on_ok_weaker c.visit_spans.result (λ l. skipped_later (λ w. w.duties) (visit S p.state) (λ w u f i d e. f.duties i d e) u (work_of c.visit_spans.new.board) _ l.later m) c.visit_spans.ensures.leaves in
-    search (rules, h)
+    rw c.afterwards.ensures (on_afterwards _ c.in_ok-changed.changed c.visit_spans.result h)
 
 pub returns-clause-skipped_spans : goal.returns-clause-skipped_spans
 returns-clause-skipped_spans g c =
     let v = c.args.skips.now.spans in
     let skips = c.visit_spans.new.skips in
     let h = subst (λ (z : List ℕ). OnOk c.visit_spans.result (SkippedSpans (work_of c.visit_spans.new.board) z)) (sym (back v.len skips v.items (omega (arith, c.visit_spans.auto.skips, c.deref_mut-2.ensures.len)))) c.visit_spans.ensures.skipped in
-    search (rules, h)
+    rw c.afterwards.ensures (on_afterwards _ c.in_ok-changed.changed c.visit_spans.result h)
+
+pub returns-clause-visited : goal.returns-clause-visited
+returns-clause-visited g c =
+    let u = work_of c.visit_spans.new.board in
+    ap (λ (r : Result Bool Stop). outcome_of r u) c.afterwards.ensures
+    ∙ told_afterwards c.in_ok-changed.changed c.visit_spans.result u
+    ∙ ap (also c.in_ok-changed.changed) c.visit_spans.ensures.visited
+    ∙ ap (λ (o : Outcome). and_then o (λ w. visit_spans w.spans w)) c.in_ok-changed.ensures.visited
+
+pub returns-in_err-changed-clause-visited : goal.returns-in_err-changed-clause-visited
+returns-in_err-changed-clause-visited g c =
+    let p = err_from_is_err_and c.from_residual.result c.from_residual.ensures.1 in
+    rw (p.1, p.2) (ap (λ (o : Outcome). and_then o (λ w. visit_spans w.spans w)) c.in_err-changed.ensures.visited)

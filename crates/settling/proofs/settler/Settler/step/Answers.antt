@@ -1,5 +1,5 @@
 -- The tables that are ready are a work in order; those of the next state, or of state 0 after a stop, are ready again.
-use Rattle.std.proofs.Common.{ap, arith}
+use Rattle.std.proofs.Common.{refl, ap, arith}
 use Rattle.meaning.specs.Intervals.{under}
 use Rattle.meaning.specs.Work.{Work}
 use Rattle.board.specs.Work.{work_of, store}
@@ -33,3 +33,9 @@ invariant_of-self g c =
 
 pub invariant_of-self-in-Err : goal.invariant_of-self-in-Err
 invariant_of-self-in-Err g c = record { ready = first_ready 0 (store c.begin.new.self) c.begin.ensures; few_serials = omega (arith, ap (λ (w : Work). w.next) c.begin.ensures) }
+
+pub returns-in-Ok-clause-counted : goal.returns-in-Ok-clause-counted
+returns-in-Ok-clause-counted g c = rw c.in-Ok.is refl
+
+pub returns-in-Ok-clause-steps : goal.returns-in-Ok-clause-steps
+returns-in-Ok-clause-steps g c = rw (c.in-Ok.is, c.turn.ensures) c.in-Ok.ensures.steps
