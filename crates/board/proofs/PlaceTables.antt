@@ -3,8 +3,10 @@ use Rattle.std.proofs.Common.{◌≡◌, ℕ, zero, suc, ◌+◌, ◌%◌, ◌^�
 use mathlib.Core.List.{map-append}
 use lib.ListN.{length-map}
 use lib.Seq.{get_or-append_seam, map-set_same}
-use Rattle.std.specs.List.{list_all}
-use Rattle.std.specs.Option.{option_eq}
+use Rattle.std.specs.Borrow.{Bor}
+use Rattle.std.specs.List.{list_all, slice_get}
+use Rattle.std.specs.Option.{option_eq, is_some, option_map, IfSome, MatchOption, IsSomeAnd}
+use Rattle.std.proofs.lemmas.Option.{slice_get-map, slice_get-get_or, slice_get_past}
 use Rattle.std.proofs.lemmas.Bool.{and_parts, and_from, or_left, or_right, cond-true, ltb-true, ltb-false, eq-eqb, eqb-true, false_from_ne_true, cases_eq, false≢true}
 use Rattle.std.proofs.lemmas.Grind.{get_or-set_at}
 use Rattle.std.proofs.lemmas.List.{get_or-set_other, get_or_append_left, get_or-map, get_or_read_under, map-set}
@@ -84,6 +86,14 @@ listed-come arrivals l m d n b a e h p q k s r =
 -- what stands at a place of the list
 pub at_place : {A : Type 0} (f : A → Option ℕ) (l k : List A) (i : ℕ) (x : A) → k ≡ l → true ≡ ltb i (length k) → x ≡ get_or k i x → get_or (map f l) i None ≡ f x
 at_place f l k i x p h e = ap (λ z. get_or (map f z) i None) (sym p) ∙ get_or-map f k i x None (ltb-true i (length k) (sym h)) ∙ ap f (sym e)
+
+-- what is made of the item at a place of the list is what stands there in the list of all that is made so, or nothing past the end
+pub made_at : {A B : Type 0} (f : A → B) (l k : List A) (i : ℕ) (o : Option (Bor A)) (r : Option B) (P : Bor A → B → Type 0) → k ≡ l → is_some o ≡ ltb i (length k)
+    → IfSome o (λ x. x.now ≡ get_or k i x.now) → MatchOption o (r ≡ None) (λ x. IsSomeAnd r (P x)) → ((x : Bor A) (y : B) → P x y → y ≡ f x.now) → r ≡ slice_get (map f l) i
+made_at f l k i None r P p h e m g = m ∙ sym (slice_get-map f l i ∙ ap (option_map f) (slice_get_past l i (omega (arith, ap length p, ltb-false i (length k) (sym h)))))
+made_at f l k i (Some x) None P p h e m g = absurd m
+made_at f l k i (Some x) (Some y) P p h e m g =
+    ap Some (g x y m) ∙ sym (slice_get-map f l i ∙ ap (option_map f) (ap (λ z. slice_get z i) (sym p) ∙ slice_get-get_or k i x.now (ltb-true i (length k) (sym h)) ∙ ap Some (sym e)))
 
 nothing_past : (l : List (Option ℕ)) (i : ℕ) → length l ≤ i → get_or l i None ≡ None
 nothing_past [] i h = refl

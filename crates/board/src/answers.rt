@@ -8,5 +8,6 @@ use meaning::Stop;
 pub fn afterwards(changed: bool, answer: Result<bool, Stop>) -> Result<bool, Stop>
     ensures { result ≡ afterwards changed answer }
 {
-    answer.map(|again| changed || again)
+    let again = answer?;
+    Ok(changed || again)
 }
