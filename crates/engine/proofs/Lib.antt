@@ -1,3 +1,4 @@
--- Lemmas that the proofs of this crate use: one state more, and the law of runs.
+-- Lemmas that the proofs of this crate use: one state more, the law of runs, and what a load comes to.
 pub mod OneMoreState
 pub mod LawOfRuns
+pub mod CallsByCondition

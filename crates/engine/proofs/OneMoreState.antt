@@ -1,5 +1,5 @@
 -- One state more, by what the step to it has come to. Assumes nothing.
-use Rattle.std.proofs.Common.{◌≡◌, ℕ, suc, ◌+◌, ◌-◌, ◌<◌, ◌≤◌, Bool, true, false, if◌then◌else◌, List, [], ◌∷◌, length, take, ℤ, Ok, sym, refl, ap, ◌∙◌, subst, arith}
+use Rattle.std.proofs.Common.{◌≡◌, ℕ, suc, ◌+◌, ◌-◌, ◌<◌, ◌≤◌, Bool, true, false, if◌then◌else◌, List, [], ◌∷◌, length, take, ℤ, Ok, Result, sym, refl, ap, ◌∙◌, subst, arith}
 use Rattle.meaning.specs.declared.duties.Stop.{Stop}
 use Rattle.meaning.specs.Intervals.{Setting}
 use Rattle.meaning.specs.Work.{Work}
@@ -12,6 +12,7 @@ use Rattle.settling.specs.declared.settler.Settler.{Settler}
 use Rattle.calls.specs.declared.answers.Condition.{Condition}
 use Rattle.calls.specs.declared.answers.Condition.TheVariants.{Open, Ended}
 use Rattle.calls.specs.declared.answers.Ending.TheVariants.{Finished, Stopped}
+use Rattle.calls.specs.declared.answers.NotAdvanced.{NotAdvanced}
 use Rattle.engine.specs.Meant.{standing_by}
 use Rattle.engine.specs.Advancing.{OneMore}
 use Rattle.calls.specs.Standing.{Standing, running, ended, Recording, with_state}
@@ -63,6 +64,11 @@ one_more_state S q p w k n x c d e r h g f = by x.last refl
     by false l =
         let t : standing_by c d ≡ running d.state (work_of d.board) = ap (λ (z : Condition). standing_by z d) (f ∙ ap (λ (b : Bool). if b then Ended Finished else Open) l) in
         goes_on S q p w (work_of d.board) k d.state n (standing_by c d) x e r l h g t
+
+-- a run whose state was not the last is open
+pub goes_on_open : (b : Bool) (c : Condition) → c ≡ (if b then Ended Finished else Open) → ◌≡◌ {A = Result Bool NotAdvanced} (Ok b) (Ok false) → c ≡ Open
+goes_on_open true c f e = cc
+goes_on_open false c f e = f
 
 -- the states that are left at turn i, where the next is the last that is settled
 pub all_of : (S : Setting) (n i : ℕ) (q p r : Recording) (w v : Work) (a : PublishedAnswer) (s : Standing) → i < n → ((a : PublishedAnswer) (t : Standing) (r : Recording) → Settled S (n - i) q w a t r → Settled S n p v a t r) → ((m : ℕ) → Settled S (suc m) q w a s r)

@@ -8,7 +8,7 @@ use calls::{Condition, Denial, Ending};
 pub const MOST_ASKED: usize = 1000;
 
 // What is asked of an engine.
-#[derive(Clone, Copy, Debug, PartialEq, Eq)]
+#[derive(Clone, Copy)]
 pub(crate) enum Event {
     Load,
     Begin,

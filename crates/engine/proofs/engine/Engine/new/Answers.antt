@@ -1,4 +1,7 @@
 -- The law of runs is proved from what the calls promise, and the law of advances from that of settling.
+use Rattle.std.proofs.Common.{ap}
+use Rattle.sheet.specs.Content.{Content}
+use Rattle.calls.specs.Standing.{idle}
 use Rattle.calls.proofs.AdvancesAlike.{advances_agree}
 use Rattle.engine.proofs.LawOfRuns.{law_of_runs}
 use Rattle.engine.proofs.engine.Engine.new.Goals as goal
@@ -20,3 +23,6 @@ returns-in_err-settler-clause-order c = advances_agree
 
 pub returns-clause-order : goal.returns-clause-order
 returns-clause-order c = advances_agree
+
+pub returns-clause-holds : goal.returns-clause-holds
+returns-clause-holds c = ap (λ (s : Content). record { sheet = s; standing = idle }) c.in_ok-loader.ensures

@@ -1,13 +1,14 @@
 -- What comes of one state more, by the answer of the step.
-use Rattle.std.proofs.Common.{ℕ, ◌<◌, take, Ok, vec_len, ap, sym, ◌∙◌, subst, arith, rules}
+use Rattle.std.proofs.Common.{ℕ, suc, ◌<◌, add-one, length, take, Ok, vec_len, ap, sym, ◌∙◌, subst, arith, rules}
 use Rattle.sheet.specs.declared.kept.Sheet.{Sheet}
 use Rattle.meaning.specs.Intervals.{under}
 use Rattle.meaning.specs.Runs.{stopped, Steps}
+use Rattle.meaning.proofs.Lists.{longer}
 use Rattle.board.specs.Work.{work_of}
 use Rattle.calls.specs.Standing.{Recording, recording, with_state}
 use Rattle.engine.specs.Advancing.{OneMore}
 use Rattle.engine.specs.Meant.{standing_by}
-use Rattle.engine.proofs.OneMoreState.{full, stops_here, one_more_state}
+use Rattle.engine.proofs.OneMoreState.{full, stops_here, goes_on_open, one_more_state}
 use Rattle.engine.proofs.engine.Engine.record_state.Goals as goal
 use Rattle.sheet.specs.ContentOf.{content_of}
 
@@ -41,3 +42,21 @@ returns-in-Err-clause-one g c =
     let at = subst (λ (z : Sheet). Steps (under (content_of z) f) e.settler.state w (stopped c.in-Err.stop)) c.sheet-sheet.ensures c.in-Err.ensures.steps in
     stops_here (under (content_of e.loader.sheet) f) q w c.state-state.result c.in-Err.stop (c.requires.counted ∙ sym c.state-state.ensures) room
     (subst (λ (k : ℕ). Steps (under (content_of e.loader.sheet) f) k w (stopped c.in-Err.stop)) (sym c.state-state.ensures) at)
+
+pub returns-in-Err-clause-stopped : goal.returns-in-Err-clause-stopped
+returns-in-Err-clause-stopped g c = λ d e. cc
+
+pub returns-in-Ok-clause-counted : goal.returns-in-Ok-clause-counted
+returns-in-Ok-clause-counted g c =
+    let q = g.R.Recorder.states c.args.recorder.now in
+    let x = take c.len.result c.in-Ok.settled.numbers in
+    λ e. ap (λ (z : Recording). length z.states) c.take_state.ensures.recorded ∙ longer q x ∙ ap suc c.requires.counted ∙ sym (c.in-Ok.ensures.counted ∙ add-one c.args.self.now.settler.state)
+
+pub returns-in-Ok-clause-owner : goal.returns-in-Ok-clause-owner
+returns-in-Ok-clause-owner g c = c.take_state.ensures.owner
+
+pub returns-in-Ok-clause-wide : goal.returns-in-Ok-clause-wide
+returns-in-Ok-clause-wide g c = ap (λ (q : Recording). q.width) c.take_state.ensures.recorded
+
+pub returns-in-Ok-clause-open : goal.returns-in-Ok-clause-open
+returns-in-Ok-clause-open g c = goes_on_open c.in-Ok.settled.last c.following-self.result c.following-self.ensures

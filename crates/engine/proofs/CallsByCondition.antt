@@ -1,0 +1,43 @@
+-- What a load comes to, by the condition in which it meets the engine.
+use Rattle.std.proofs.Common.{◌≡◌, ℕ, List, Ok, Err, Result, sym, refl, ap, subst}
+use Rattle.std.specs.Result.{IsErr, IsErrAnd}
+use Rattle.load.specs.Loading.{LoaderLoads}
+use Rattle.calls.specs.declared.answers.NotLoaded.{NotLoaded}
+use Rattle.sheet.specs.Content.{Content}
+use Rattle.load.specs.declared.refusals.Refusal.{Refusal}
+use Rattle.load.specs.Parsing.{parse_sheet}
+use Rattle.settling.specs.declared.settler.Settler.{Settler}
+use Rattle.calls.specs.declared.answers.Condition.{Condition}
+use Rattle.calls.specs.declared.answers.Condition.TheVariants.{Idle, Open, Ended}
+use Rattle.calls.specs.declared.answers.Denial.{Denial}
+use Rattle.calls.specs.declared.answers.NotLoaded.TheVariants.{RunIsOpen, Refused}
+use Rattle.calls.specs.Standing.{Meant}
+use Rattle.calls.specs.Published.{PublishedAnswer, published, to_load, published_not_loaded}
+use Rattle.calls.specs.Calls.{LoadsBy, LoadsIn}
+use Rattle.engine.specs.declared.events.Event.TheVariants.{Load}
+use Rattle.engine.specs.Events.{admitted, after_event}
+use Rattle.engine.specs.Meant.{standing_by}
+
+-- to ask for a load turns no condition
+pub load_keeps : (c : Condition) → after_event c Load ≡ c
+load_keeps Idle = refl
+load_keeps Open = refl
+load_keeps (Ended x) = refl
+
+-- a load is denied
+pub load_denied : (c : Condition) (s : Settler) (t : List ℕ) (e d : Meant) (a : PublishedAnswer) (r : Result (Unit {0}) Denial) → r ≡ admitted c Load → IsErr r → a ≡ published_not_loaded RunIsOpen → d ≡ e → LoadsIn (standing_by c s) t e a d
+load_denied Idle s t e d a r h i j k = cc (subst IsErr h i)
+load_denied Open s t e d a r h i j k = (j, k)
+load_denied (Ended y) s t e d a r h i j k = cc (subst IsErr h i)
+
+-- a load that is not denied does what comes of its text
+pub load_admitted : (c : Condition) (s : Settler) (t : List ℕ) (e d : Meant) (a : PublishedAnswer) (v : Result Content Refusal) → admitted c Load ≡ Ok tt → parse_sheet t ≡ v → LoadsBy v e a d → LoadsIn (standing_by c s) t e a d
+load_admitted Idle s t e d a v h p b = subst (λ (r : Result Content Refusal). LoadsBy r e a d) (sym p) b
+load_admitted Open s t e d a v h p b = cc
+load_admitted (Ended y) s t e d a v h p b = subst (λ (r : Result Content Refusal). LoadsBy r e a d) (sym p) b
+
+-- and changes nothing where the text is refused
+pub load_refused : (c : Condition) (s : Settler) (t : List ℕ) (e d : Meant) (l : Result (Unit {0}) Refusal) (f : Result (Unit {0}) NotLoaded) (a b : Content) → admitted c Load ≡ Ok tt
+    → LoaderLoads l a b (parse_sheet t) → IsErrAnd l (λ r. f ≡ Err (Refused r)) → (b ≡ a → d ≡ e) → LoadsIn (standing_by c s) t e (published (to_load f)) d
+load_refused c s t e d (Ok u) f a b h o i k = absurd i
+load_refused c s t e d (Err r) f a b h o i k = load_admitted c s t e d (published (to_load f)) (Err r) h o.0 (ap (λ (z : Result (Unit {0}) NotLoaded). published (to_load z)) i, k o.1)
