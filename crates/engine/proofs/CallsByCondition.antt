@@ -1,4 +1,4 @@
--- What a load comes to, by the condition in which it meets the engine.
+-- What a load and an abandon come to, by the condition in which it meets the engine.
 use Rattle.std.proofs.Common.{◌≡◌, ℕ, List, Ok, Err, Result, sym, refl, ap, subst}
 use Rattle.std.specs.Result.{IsErr, IsErrAnd}
 use Rattle.load.specs.Loading.{LoaderLoads}
@@ -12,9 +12,9 @@ use Rattle.calls.specs.declared.answers.Condition.TheVariants.{Idle, Open, Ended
 use Rattle.calls.specs.declared.answers.Denial.{Denial}
 use Rattle.calls.specs.declared.answers.NotLoaded.TheVariants.{RunIsOpen, Refused}
 use Rattle.calls.specs.Standing.{Meant}
-use Rattle.calls.specs.Published.{PublishedAnswer, published, to_load, published_not_loaded}
-use Rattle.calls.specs.Calls.{LoadsBy, LoadsIn}
-use Rattle.engine.specs.declared.events.Event.TheVariants.{Load}
+use Rattle.calls.specs.Published.{PublishedAnswer, published, to_load, to_abandon, published_not_loaded}
+use Rattle.calls.specs.Calls.{LoadsBy, LoadsIn, AbandonsIn}
+use Rattle.engine.specs.declared.events.Event.TheVariants.{Load, Abandon}
 use Rattle.engine.specs.Events.{admitted, after_event}
 use Rattle.engine.specs.Meant.{standing_by}
 
@@ -41,3 +41,10 @@ pub load_refused : (c : Condition) (s : Settler) (t : List ℕ) (e d : Meant) (l
     → LoaderLoads l a b (parse_sheet t) → IsErrAnd l (λ r. f ≡ Err (Refused r)) → (b ≡ a → d ≡ e) → LoadsIn (standing_by c s) t e (published (to_load f)) d
 load_refused c s t e d (Ok u) f a b h o i k = absurd i
 load_refused c s t e d (Err r) f a b h o i k = load_admitted c s t e d (published (to_load f)) (Err r) h o.0 (ap (λ (z : Result (Unit {0}) NotLoaded). published (to_load z)) i, k o.1)
+
+-- an abandon ends the run that is open
+pub abandon_does : (c n : Condition) (s : Settler) (e : Content) (r : Result (Unit {0}) Denial) → r ≡ admitted c Abandon → n ≡ after_event c Abandon
+    → AbandonsIn (standing_by c s) (record { sheet = e; standing = standing_by c s }) (published (to_abandon r)) (record { sheet = e; standing = standing_by n s })
+abandon_does Idle n s e r h k = (ap (λ (z : Result (Unit {0}) Denial). published (to_abandon z)) h, ap (λ (z : Condition). record { sheet = e; standing = standing_by z s }) k)
+abandon_does Open n s e r h k = (ap (λ (z : Result (Unit {0}) Denial). published (to_abandon z)) h, ap (λ (z : Condition). record { sheet = e; standing = standing_by z s }) k)
+abandon_does (Ended y) n s e r h k = (ap (λ (z : Result (Unit {0}) Denial). published (to_abandon z)) h, ap (λ (z : Condition). record { sheet = e; standing = standing_by z s }) k)
