@@ -1,3 +1,4 @@
 -- Lemmas that the proofs of this crate use.
 mod WordByWord
+mod StepByStep
 mod CallsWithoutPath

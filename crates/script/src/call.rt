@@ -6,7 +6,7 @@ ghost use Rattle.script.specs.Words.{count_in, look_words_in, bare_of, counted_o
 
 use crate::reading::reading_left;
 use feed::Reading;
-use text::{MOST, Reader, natural};
+use text::{MOST, Reader, natural, same};
 
 // A line of a script. A number in it is at most a million.
 #[derive(Clone, Copy, Debug, PartialEq, Eq)]
@@ -68,15 +68,15 @@ fn look_left(words: &mut Reader<'_>) -> Option<Call<'static>>
 fn bare(word: &[u8]) -> Option<Call<'static>>
     ensures { result ≡ bare_of word.now }
 {
-    if word == b"silence".as_slice() {
+    if same(word, b"silence") {
         Some(Call::Silence)
-    } else if word == b"begin".as_slice() {
+    } else if same(word, b"begin") {
         Some(Call::Begin)
-    } else if word == b"report".as_slice() {
+    } else if same(word, b"report") {
         Some(Call::Report)
-    } else if word == b"abandon".as_slice() {
+    } else if same(word, b"abandon") {
         Some(Call::Abandon)
-    } else if word == b"record".as_slice() {
+    } else if same(word, b"record") {
         Some(Call::Record)
     } else {
         None
@@ -87,13 +87,13 @@ fn bare(word: &[u8]) -> Option<Call<'static>>
 fn counted(word: &[u8], n: u32) -> Option<Call<'static>>
     ensures { result ≡ counted_of word.now n }
 {
-    if word == b"table".as_slice() {
+    if same(word, b"table") {
         Some(Call::Table(n))
-    } else if word == b"text".as_slice() {
+    } else if same(word, b"text") {
         Some(Call::Text(n))
-    } else if word == b"advance".as_slice() {
+    } else if same(word, b"advance") {
         Some(Call::Advance(n))
-    } else if word == b"name".as_slice() {
+    } else if same(word, b"name") {
         Some(Call::Name(n))
     } else {
         None
@@ -104,9 +104,9 @@ fn counted(word: &[u8], n: u32) -> Option<Call<'static>>
 fn plain_left(word: &[u8], words: &mut Reader<'_>) -> Option<Call<'static>>
     ensures { result ≡ plain_in word.now (pieces_from 32 words.old.text.now words.old.place) }
 {
-    if word == b"look".as_slice() {
+    if same(word, b"look") {
         look_left(words)
-    } else if word == b"reading".as_slice() {
+    } else if same(word, b"reading") {
         Some(Call::Reading(reading_left(words)?))
     } else if let Some(call) = bare(word) {
         words.word().is_none().then_some(call)
@@ -121,7 +121,7 @@ pub fn read_call(line: &[u8]) -> Option<Call<'_>>
 {
     let mut words = Reader::new(line);
     let word = words.word()?;
-    if word == b"sheet".as_slice() {
+    if same(word, b"sheet") {
         Some(Call::Sheet(last_word(&mut words)?))
     } else {
         plain_left(word, &mut words)
