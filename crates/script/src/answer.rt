@@ -8,7 +8,7 @@ use meaning::Stop;
 use std::fmt;
 
 // What a call on an engine answers, with the call that it comes from.
-#[derive(Clone, Copy, Debug, PartialEq, Eq)]
+#[derive(Clone, Copy)]
 pub enum Answer {
     // the text is held as a sheet, or why not
     Load(Result<(), NotLoaded>),
