@@ -1,14 +1,14 @@
 // What an example is of.
 
 // An example: its name, and the parts of its block, as they stand in the table.
-#[derive(Clone, Copy, Debug)]
+#[derive(Clone, Copy)]
 pub struct Example<'a> {
     pub name: &'a [u8],
     pub kind: Kind<'a>,
 }
 
 // The three kinds of examples.
-#[derive(Clone, Copy, Debug)]
+#[derive(Clone, Copy)]
 pub enum Kind<'a> {
     // a text, and what loading it answers
     Loaded(LoadedText<'a>),
@@ -19,7 +19,7 @@ pub enum Kind<'a> {
 }
 
 // A text that is loaded.
-#[derive(Clone, Copy, Debug)]
+#[derive(Clone, Copy)]
 pub struct LoadedText<'a> {
     // the text on one line
     pub packed: &'a [u8],
@@ -28,7 +28,7 @@ pub struct LoadedText<'a> {
 }
 
 // A text that is run without readings.
-#[derive(Clone, Copy, Debug)]
+#[derive(Clone, Copy)]
 pub struct ShownText<'a> {
     // the text on one line
     pub packed: &'a [u8],
@@ -39,7 +39,7 @@ pub struct ShownText<'a> {
 }
 
 // A sheet that is run with readings.
-#[derive(Clone, Copy, Debug)]
+#[derive(Clone, Copy)]
 pub struct WorkedSheet<'a> {
     // the lines of the sheet
     pub sheet: &'a [u8],

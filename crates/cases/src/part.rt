@@ -5,7 +5,7 @@ ghost use Rattle.cases.specs.Parts.{part_named, part_in};
 use text::{Reader, same};
 
 // What a line says.
-#[derive(Clone, Copy, Debug, PartialEq, Eq)]
+#[derive(Clone, Copy, PartialEq, Eq)]
 pub enum Part {
     // an example begins, with this name
     Name,
