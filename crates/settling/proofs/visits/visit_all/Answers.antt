@@ -1,5 +1,5 @@
 -- Each visit is the next one, and keeps what the invariant says; the places end with the list.
-use Rattle.std.proofs.Common.{◌≡◌, ◌<◌, ◌≤◌, suc, ◌+◌, ◌||◌, get_or, sym, ap, ◌∙◌, subst, arith}
+use Rattle.std.proofs.Common.{◌≡◌, ◌<◌, ◌≤◌, suc, ◌+◌, ◌||◌, length, get_or, sym, ap, ◌∙◌, subst, arith}
 use Rattle.std.proofs.lemmas.Option.{slice_get_within}
 use Rattle.std.proofs.lemmas.Result.{err_from_is_err_and}
 use Rattle.meaning.specs.Work.{also}
@@ -131,3 +131,35 @@ returns-clause-visited g c =
     let h : l.place < n = omega (arith, skip_within V.items v w l.skips l.from l.invariant.skipped l.invariant.within, l.invariant.leads, c.item.ensures.few) in
     let q = from_skip V.items v n l.from l.place w l.skips l.changed o l.invariant.skipped l.invariant.leads h l.invariant.going in
     from_over V.items v n l.place w l.changed o h (sym c.in_default.ensures.found) q
+
+pub returns-clause-skipped : goal.returns-clause-skipped
+returns-clause-skipped g c = c.loop-item.invariant.skipped
+
+pub returns-clause-leaves : goal.returns-clause-leaves
+returns-clause-leaves g c = c.loop-item.invariant.leaves
+
+pub returns-in_err-visit-clause-skipped : goal.returns-in_err-visit-clause-skipped
+returns-in_err-visit-clause-skipped g c = let p = err_from_is_err_and c.from_residual.result c.from_residual.ensures.1 in rw p.1 tt
+
+pub returns-in_err-visit-clause-leaves : goal.returns-in_err-visit-clause-leaves
+returns-in_err-visit-clause-leaves g c = let p = err_from_is_err_and c.from_residual.result c.from_residual.ensures.1 in rw p.1 tt
+
+pub visit-requires-clause-there : goal.visit-requires-clause-there
+visit-requires-clause-there g c = (c.loop-item.place, sym c.in-Some.ensures.found)
+
+pub next_place-place-requires : goal.next_place-place-requires
+next_place-place-requires g c = omega (arith, c.requires.long)
+
+pub overflow_add-from : goal.overflow_add-from
+overflow_add-from g c =
+    let V = g.P.Visitor in
+    omega (arith, slice_get_within (V.items (work_of c.loop-item.board)) c.loop-item.place c.in-Some.item (sym c.in-Some.ensures.found), c.item.ensures.few, g.met.P.Visitor.small)
+
+pub next_place-place-requires-in-Some : goal.next_place-place-requires-in-Some
+next_place-place-requires-in-Some g c =
+    let l = c.loop-item in
+    let i = slice_get_within (g.P.Visitor.items (work_of l.board)) l.place c.in-Some.item (sym c.in-Some.ensures.found) in
+    elim c.if-visit.branch [
+      | then-visit w ↦ omega (arith, i, c.item.ensures.few, c.requires.long, l.auto.skips, l.invariant.leads, w.from-is, ap length w.skips-is, w.lengthen.auto.skips)
+      | else-visit w ↦ omega (arith, i, c.item.ensures.few, c.requires.long, l.auto.skips, w.from-is, ap length w.skips-is)
+    ]

@@ -1,5 +1,5 @@
 -- The spans are visited after the duties, and the skips on both stay right meanwhile.
-use Rattle.std.proofs.Common.{ℕ, Bool, List, Result, OnOk, sym, ap, ◌∙◌, subst, arith}
+use Rattle.std.proofs.Common.{ℕ, Bool, List, Result, OnOk, refl, sym, ap, ◌∙◌, subst, arith}
 use Rattle.std.proofs.lemmas.Result.{on_ok_weaker, err_from_is_err_and}
 use Rattle.meaning.specs.declared.duties.Stop.{Stop}
 use Rattle.meaning.specs.Work.{Outcome, also, and_then}
@@ -55,3 +55,23 @@ pub returns-in_err-changed-clause-visited : goal.returns-in_err-changed-clause-v
 returns-in_err-changed-clause-visited g c =
     let p = err_from_is_err_and c.from_residual.result c.from_residual.ensures.1 in
     rw (p.1, p.2) (ap (λ (o : Outcome). and_then o (λ w. visit_spans w.spans w)) c.in_err-changed.ensures.visited)
+
+pub visit_duties-requires-clause-well_formed : goal.visit_duties-requires-clause-well_formed
+visit_duties-requires-clause-well_formed g c = c.requires.well_formed
+
+pub visit_duties-requires-clause-long : goal.visit_duties-requires-clause-long
+visit_duties-requires-clause-long g c = omega (arith, c.args.skips.now.sized.0, c.deref_mut.ensures.len)
+
+pub visit_spans-requires-clause-well_formed : goal.visit_spans-requires-clause-well_formed
+visit_spans-requires-clause-well_formed g c =
+    let S = setting_of g.F.Feed.readings c.args.self.now in
+    (S, c.in_ok-changed.ensures.leaves.well_formed S refl c.requires.well_formed)
+
+pub visit_spans-requires-clause-long : goal.visit_spans-requires-clause-long
+visit_spans-requires-clause-long g c = omega (arith, c.args.skips.now.sized.1, c.deref_mut-2.ensures.len)
+
+pub returns-in_err-changed-clause-skipped : goal.returns-in_err-changed-clause-skipped
+returns-in_err-changed-clause-skipped g c = let p = err_from_is_err_and c.from_residual.result c.from_residual.ensures.1 in rw p.1 tt
+
+pub returns-in_err-changed-clause-skipped_spans : goal.returns-in_err-changed-clause-skipped_spans
+returns-in_err-changed-clause-skipped_spans g c = let p = err_from_is_err_and c.from_residual.result c.from_residual.ensures.1 in rw p.1 tt
