@@ -2,3 +2,5 @@
 mod LineLengths
 -- What comes of a text, by what its calls promise.
 mod ShownRuns
+-- A run from its first state on.
+mod FirstRuns

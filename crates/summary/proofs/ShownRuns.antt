@@ -1,5 +1,5 @@
 -- What comes of a text, by what its calls promise. Assumes nothing.
-use Rattle.std.proofs.Common.{◌≡◌, ℕ, ◌+◌, ◌-◌, ◌≤◌, Bool, true, false, leb, if◌then◌else◌, List, [], ◌∷◌, ◌++◌, length, length-append, get_or, take, drop, ℤ, Ok, Err, Option, Result, sym, refl, ap, ◌∙◌, subst, arith}
+use Rattle.std.proofs.Common.{◌≡◌, ℕ, ◌+◌, ◌-◌, ◌<◌, ◌≤◌, Bool, true, false, leb, if◌then◌else◌, List, [], ◌∷◌, ◌++◌, length, length-append, get_or, take, drop, ℤ, Ok, Err, Option, Result, sym, refl, ap, ◌∙◌, subst, arith}
 use Rattle.std.proofs.lemmas.List.{take_at, drop_at, ext_get_or, get_or-drop, length-drop, length-take}
 use Rattle.sheet.specs.Content.{Content}
 use Rattle.load.specs.declared.refusals.Refusal.{Refusal}
@@ -84,6 +84,12 @@ pub shows_of : (v : Result Content Refusal) (f : ℕ → ℕ → Option ℤ) (n 
 shows_of (Ok c) f n end old new shut x b d h e = (h.come.0, h.recorder, h.come.2, h.kept, e ∙ ap closing_text h.come.1)
 shows_of (Err r) f n end old new shut x b d h e =
     (h.kept ∙ ap (λ (p : Recording). states_text p.states) h.come.3 ∙ no_text, e ∙ ap closing_text h.come.1 ∙ same_lines h.come.0 (Refused r) h.come.2, h.come.4)
+
+-- lines that do not fit change nothing
+pub none_fit : {A : Type 0} (n k m : ℕ) (x y : A) → n ≡ k → m < n → y ≡ (if leb k m then x else y)
+none_fit n k m x y e h =
+    let f : leb k m ≡ false = grind arith in
+    sym (ap (λ (b : Bool). if b then x else y) f)
 
 -- lines that fit stand at the front
 pub front_lines : (n : ℕ) (ls old new : List ℕ) → length ls ≤ 81 → 81 ≤ length old → n ≡ (if leb (length ls) (length old) then length ls else 0) → new ≡ (if leb (length ls) (length old) then ls ++ drop (length ls) old else old) → take n new ≡ ls

@@ -16,3 +16,6 @@ pub returns-clause-closing_end : goal.returns-clause-closing_end
 returns-clause-closing_end g c =
     let e = c.closing_lines.ensures in
     front_of c.closing_lines.result (closing_text c.record_text-end.result.1) c.args.closing.now c.closing_lines.new.bytes e.answer e.written
+
+pub returns-clause-text_end : goal.returns-clause-text_end
+returns-clause-text_end g c = c.record_text-end.ensures.front
