@@ -13,3 +13,4 @@ pub mod Laws
 pub mod LoopTurns
 pub mod LineWalk
 pub mod NamePlaces
+mod FirstLine

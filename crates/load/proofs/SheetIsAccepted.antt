@@ -110,7 +110,7 @@ sheet_chain c l =
     chain_variables c.variables [] c.variables _ (whole c) refl l.counts.1 l.variables second
 
 -- ---- the text
-text_taken : (text front : List ℕ) (ls : List (List ℕ)) (r : Result Content _) → text ≡ front ++ 10 ∷ [] → length text ≤ 16384 → parted 10 front ≡ ls → check_header ls ≡ r → parse_sheet text ≡ r
+pub text_taken : (text front : List ℕ) (ls : List (List ℕ)) (r : Result Content _) → text ≡ front ++ 10 ∷ [] → length text ≤ 16384 → parted 10 front ≡ ls → check_header ls ≡ r → parse_sheet text ≡ r
 text_taken text front ls r e short parts q =
     let n : length text ≡ length front + 1 = ap length e ∙ length-append front (10 ∷ []) in
     let k : length front ≡ length text - 1 = omega arith in

@@ -7,7 +7,7 @@ ghost use Rattle.std.specs.Prelude.{◌≡◌, ◌+◌, ◌≤◌, length};
 
 use crate::refusals::Refusal;
 use sheet::Draft;
-use text::Reader;
+use text::{Reader, same};
 
 // The longest text, in bytes.
 pub const LONGEST_TEXT: usize = 16_384;
@@ -45,7 +45,7 @@ pub(crate) fn read_text(draft: &mut Draft, text: &[u8]) -> Result<u16, Refusal>
     }
     let mut reader = Reader::new(lines);
     let first = reader.line().ok_or(Refusal::Header)?;
-    if first != b"sheet=2".as_slice() {
+    if !same(first, b"sheet=2") {
         return Err(Refusal::Header);
     }
     draft.clear();
