@@ -1,7 +1,15 @@
 // Tables of examples that are in order, and some that are not.
-use cases::{Kind, next_example, unpacked};
+use cases::{Example, Kind, next_example, unpacked};
 use std::test::Fail;
 use text::{Reader, same};
+
+// The next example, where it is in order.
+fn next<'a>(reader: &mut Reader<'a>) -> Result<Example<'a>, Fail> {
+    match next_example(reader) {
+        Some(Ok(example)) => Ok(example),
+        _ => Err(Fail::new("no example in order")),
+    }
+}
 
 // The parts of a worked sheet stand as they are in the table.
 #[test]
@@ -9,18 +17,20 @@ fn sheets(rt: HostRuntime) -> Result<(), Fail> {
     let mut reader = Reader::new(
         b"\nexample=a\nformula=x = y\nsheet=2\nrun=0\nreading=0 0 6\nrecord=6 0\nrecord=1 2\nverdict=open\nstates=2\n\n",
     );
-    let next = next_example(&mut reader).ok_or("no example")?;
-    let example = next.map_err(|_| "malformed")?;
-    assert!(rt; same(example.name, b"a"));
-    let sheet = match example.kind {
-        Kind::Worked(sheet) => Some(sheet),
-        _ => None,
+    let example = next(&mut reader)?;
+    let Kind::Worked(sheet) = example.kind else {
+        return Err(Fail::new("another kind"));
     };
-    let sheet = sheet.ok_or("another kind")?;
-    assert!(rt; same(sheet.sheet, b"sheet=2\nrun=0\n"));
-    assert!(rt; same(sheet.readings, b"reading=0 0 6\n"));
-    assert!(rt; same(sheet.record, b"record=6 0\nrecord=1 2\n"));
-    assert!(rt; same(sheet.closing, b"verdict=open\nstates=2\n"));
+    let parts: [(&[u8], &[u8]); 5] = [
+        (example.name, b"a"),
+        (sheet.sheet, b"sheet=2\nrun=0\n"),
+        (sheet.readings, b"reading=0 0 6\n"),
+        (sheet.record, b"record=6 0\nrecord=1 2\n"),
+        (sheet.closing, b"verdict=open\nstates=2\n"),
+    ];
+    for (part, text) in &parts {
+        assert!(rt; same(part, text));
+    }
     assert!(rt; next_example(&mut reader).is_none());
     Ok(())
 }
@@ -31,26 +41,23 @@ fn packed(rt: HostRuntime) -> Result<(), Fail> {
     let mut reader = Reader::new(
         b"example=a\ntext=sheet=2//\nanswer=5 2 0\n\nexample=b\ntext=\nstate=0\nv0=1\nverdict=open\nstates=1\n",
     );
-    let next = next_example(&mut reader).ok_or("no example")?;
-    let example = next.map_err(|_| "malformed")?;
-    let text = match example.kind {
-        Kind::Loaded(text) => Some(text),
-        _ => None,
+    let Kind::Loaded(loaded) = next(&mut reader)?.kind else {
+        return Err(Fail::new("another kind"));
     };
-    let text = text.ok_or("another kind")?;
-    assert!(rt; same(text.packed, b"sheet=2//"));
-    assert!(rt; same(text.answer, b"5 2 0"));
-    assert!(rt; same(&unpacked(rt.alloc(), text.packed)?, b"sheet=2\n\n"));
-    let next = next_example(&mut reader).ok_or("no example")?;
-    let example = next.map_err(|_| "malformed")?;
-    let text = match example.kind {
-        Kind::Shown(text) => Some(text),
-        _ => None,
+    let Kind::Shown(shown) = next(&mut reader)?.kind else {
+        return Err(Fail::new("another kind"));
     };
-    let text = text.ok_or("another kind")?;
-    assert!(rt; text.packed.is_empty());
-    assert!(rt; same(text.record, b"state=0\nv0=1\n"));
-    assert!(rt; same(text.closing, b"verdict=open\nstates=1\n"));
+    let parts: [(&[u8], &[u8]); 5] = [
+        (loaded.packed, b"sheet=2//"),
+        (loaded.answer, b"5 2 0"),
+        (shown.packed, b""),
+        (shown.record, b"state=0\nv0=1\n"),
+        (shown.closing, b"verdict=open\nstates=1\n"),
+    ];
+    for (part, text) in &parts {
+        assert!(rt; same(part, text));
+    }
+    assert!(rt; same(&unpacked(rt.alloc(), loaded.packed)?, b"sheet=2\n\n"));
     Ok(())
 }
 
@@ -92,7 +99,6 @@ fn blocks(rt: HostRuntime) {
 fn goes_on(rt: HostRuntime) -> Result<(), Fail> {
     let mut reader = Reader::new(b"example=a\n\nexample=b\nsheet=2\nverdict=open");
     assert!(rt; next_example(&mut reader).is_some_and(|next| next.is_err()));
-    let next = next_example(&mut reader).ok_or("no example")?;
-    assert!(rt; next.is_ok_and(|example| same(example.name, b"b")));
+    assert!(rt; same(next(&mut reader)?.name, b"b"));
     Ok(())
 }

@@ -29,10 +29,15 @@ fn lists(rt: HostRuntime) {
         },
     ];
     let feed = ListFeed::new(&list);
-    assert_eq!(rt; feed.reading(15, 65_534), Some(3));
-    assert_eq!(rt; feed.reading(15, 65_535), None);
-    assert_eq!(rt; feed.reading(16, 65_534), None);
-    assert_eq!(rt; feed.reading(14, 65_534), None);
+    let rows = [
+        (15, 65_534, Some(3)),
+        (15, 65_535, None),
+        (16, 65_534, None),
+        (14, 65_534, None),
+    ];
+    for (variable, state, number) in &rows {
+        assert_eq!(rt; feed.reading(*variable, *state), *number);
+    }
     assert_eq!(rt; Silent.reading(15, 65_534), None);
 }
 

@@ -14,6 +14,8 @@ mod feeds;
 #[cfg(test)]
 mod holding;
 #[cfg(test)]
+mod looking;
+#[cfg(test)]
 mod numbers;
 #[cfg(test)]
 mod reading;

@@ -1,4 +1,5 @@
 // The edges of the rules of recorders, at records as text, and what stands in the bytes.
+use crate::looking::looks;
 use makers::keep_text;
 use record::{Recorder, TextRecorder};
 
@@ -39,18 +40,29 @@ fn lines(rt: HostRuntime) {
     let mut memory = [b'.'; 80];
     let mut recorder = TextRecorder::new(&mut memory);
     assert!(rt; recorder.start(2));
-    assert!(rt; recorder.take(&[1_000_000, -1_000_000]));
-    assert!(rt; !recorder.take(&[1_000_001, 0]));
-    assert!(rt; recorder.take(&[0, 42]));
-    assert!(rt; !recorder.take(&[0, 0]));
-    assert_eq!(rt; recorder.look(0, 1), Some(-1_000_000));
-    assert_eq!(rt; recorder.look(1, 0), Some(0));
-    assert_eq!(rt; recorder.look(1, 1), Some(42));
-    assert_eq!(rt; recorder.look(2, 0), None);
-    let length = recorder.length();
+    let states: [([i64; 2], bool); 4] = [
+        ([1_000_000, -1_000_000], true),
+        ([1_000_001, 0], false),
+        ([0, 42], true),
+        ([0, 0], false),
+    ];
+    for (values, taken) in &states {
+        assert_eq!(rt; recorder.take(values), *taken);
+    }
+    looks(
+        &rt,
+        &recorder,
+        &[
+            (0, 1, Some(-1_000_000)),
+            (1, 0, Some(0)),
+            (1, 1, Some(42)),
+            (2, 0, None),
+        ],
+    );
+    assert_eq!(rt; recorder.length(), 50);
     let text = b"state=0\nv0=1000000\nv1=-1000000\nstate=1\nv0=0\nv1=42\n";
-    assert!(rt; memory[..length] == text[..]);
-    assert_eq!(rt; memory[length], b'.');
+    assert!(rt; memory.starts_with(text));
+    assert_eq!(rt; memory[50], b'.');
 }
 
 // The bytes of the record before stay until they are reached again.

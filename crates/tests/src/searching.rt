@@ -15,8 +15,13 @@ fn places(rt: HostRuntime) {
 // The first byte that differs decides, and a front comes first.
 #[test]
 fn byte_strings(rt: HostRuntime) {
-    assert_eq!(rt; compare_bytes(b"ab", b"b"), Ordering::Less);
-    assert_eq!(rt; compare_bytes(b"ab", b"a"), Ordering::Greater);
-    assert_eq!(rt; compare_bytes(b"", b"a"), Ordering::Less);
-    assert_eq!(rt; compare_bytes(b"ab", b"ab"), Ordering::Equal);
+    let rows: [(&[u8], &[u8], Ordering); 4] = [
+        (b"ab", b"b", Ordering::Less),
+        (b"ab", b"a", Ordering::Greater),
+        (b"", b"a", Ordering::Less),
+        (b"ab", b"ab", Ordering::Equal),
+    ];
+    for (a, b, order) in &rows {
+        assert_eq!(rt; compare_bytes(a, b), *order);
+    }
 }

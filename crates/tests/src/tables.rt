@@ -1,4 +1,5 @@
 // The edges of the rules of recorders, at tables of numbers.
+use crate::looking::looks;
 use makers::keep;
 use record::{Recorder, TableRecorder};
 use std::test::Fail;
@@ -9,13 +10,18 @@ fn widths(rt: HostRuntime) {
     let mut memory = [0i64; 32];
     let mut table = TableRecorder::new(&mut memory);
     assert_eq!(rt; table.width(), 1);
-    assert!(rt; !table.start(0));
-    assert!(rt; table.start(1));
-    assert_eq!(rt; table.room(), 32);
-    assert!(rt; table.start(16));
-    assert_eq!(rt; table.room(), 2);
-    assert!(rt; !table.start(17));
-    assert_eq!(rt; table.width(), 16);
+    // a width, whether it is allowed, and the width and the room after that
+    let starts = [
+        (0, false, 1, 32),
+        (1, true, 1, 32),
+        (16, true, 16, 2),
+        (17, false, 16, 2),
+    ];
+    for (width, allowed, after, room) in &starts {
+        assert_eq!(rt; table.start(*width), *allowed);
+        assert_eq!(rt; table.width(), *after);
+        assert_eq!(rt; table.room(), *room);
+    }
 }
 
 // Memory of no number, and of one number less than a state, has no room.
@@ -50,14 +56,21 @@ fn values(rt: HostRuntime) {
     let mut memory = [0i64; 8];
     let mut table = TableRecorder::new(&mut memory);
     assert!(rt; table.start(2));
-    assert!(rt; table.take(&[1_000_000, -1_000_000]));
-    assert!(rt; !table.take(&[1_000_001, 0]));
-    assert!(rt; !table.take(&[0, -1_000_001]));
-    assert!(rt; !table.take(&[0]));
+    let states: [(&[i64], bool); 4] = [
+        (&[1_000_000, -1_000_000], true),
+        (&[1_000_001, 0], false),
+        (&[0, -1_000_001], false),
+        (&[0], false),
+    ];
+    for (values, taken) in &states {
+        assert_eq!(rt; table.take(values), *taken);
+    }
     assert_eq!(rt; table.count(), 1);
-    assert_eq!(rt; table.look(0, 1), Some(-1_000_000));
-    assert_eq!(rt; table.look(0, 2), None);
-    assert_eq!(rt; table.look(1, 0), None);
+    looks(
+        &rt,
+        &table,
+        &[(0, 1, Some(-1_000_000)), (0, 2, None), (1, 0, None)],
+    );
 }
 
 // A rest that is shorter than a state is left out, and the owner's numbers beyond the record stay.
