@@ -1,5 +1,6 @@
 -- What is told of the operands is told of the operation.
-use Rattle.std.proofs.Common.{ℕ, ℤ, Some, Err, Option, sym, ap, ◌∙◌, subst, w64, to_z, of_z, rules}
+use Rattle.std.proofs.Common.{ℕ, ℤ, Some, Err, Option, sym, ap, ◌∙◌, subst, w64, to_z, of_z}
+use Rattle.std.proofs.lemmas.Result.{err_from_is_err_and}
 use Rattle.sheet.specs.declared.elements.Expression.TheVariants.{Pair, Not}
 use Rattle.value.specs.declared.end.End.TheVariants.{Unknown}
 use Rattle.value.specs.Values.{apply, negation, map_known}
@@ -16,7 +17,7 @@ returns-in_err-x-in-Pair c end =
     let operand = subst (λ (i : ℕ). Agrees (g i) (Err why)) c.from.ensures (c.in_err-x-in-Pair.ensures.told end) in
     let entry = partial_value-entry c.args.self.now.sheet.now c.args.number c.index.result.now (Pair p.o p.a p.b) c.requires.there c.index.ensures p.is c.args.self.now.values.now end in
     let told = subst (λ (o : Option ℤ). Agrees o (Err why)) (sym entry) (tells_first (apply p.o) (g p.a) (g p.b) why operand) in
-    search rules
+    let r = err_from_is_err_and c.from_residual.result c.from_residual.ensures.1 in rw (r.1, r.2) told
 
 pub returns-in_err-y-in-Pair : goal.returns-in_err-y-in-Pair
 returns-in_err-y-in-Pair c end =
@@ -27,7 +28,7 @@ returns-in_err-y-in-Pair c end =
     let first = c.in_ok-x-in-Pair.ensures.told end ∙ ap g c.from.ensures in
     let entry = partial_value-entry c.args.self.now.sheet.now c.args.number c.index.result.now (Pair p.o p.a p.b) c.requires.there c.index.ensures p.is c.args.self.now.values.now end in
     let told = subst (λ (o : Option ℤ). Agrees o (Err why)) (sym entry) (tells_second (apply p.o) c.in_ok-x-in-Pair.x (g p.a) (g p.b) why first operand) in
-    search rules
+    let r = err_from_is_err_and c.from_residual-in_err-y-in-Pair.result c.from_residual-in_err-y-in-Pair.ensures.1 in rw (r.1, r.2) told
 
 pub returns-in_err-leaf-in-Not : goal.returns-in_err-leaf-in-Not
 returns-in_err-leaf-in-Not c end =
@@ -37,7 +38,7 @@ returns-in_err-leaf-in-Not c end =
     let operand = subst (λ (i : ℕ). Agrees (g i) (Err why)) c.from-in-Not.ensures (c.in_err-leaf-in-Not.ensures.told end) in
     let entry = partial_value-entry c.args.self.now.sheet.now c.args.number c.index.result.now (Not a) c.requires.there c.index.ensures c.in-Not.is c.args.self.now.values.now end in
     let told = subst (λ (o : Option ℤ). Agrees o (Err why)) (sym entry) (tells_once negation (g a) why operand) in
-    search rules
+    let r = err_from_is_err_and c.from_residual-in_err-leaf-in-Not.result c.from_residual-in_err-leaf-in-Not.ensures.1 in rw (r.1, r.2) told
 
 pub applied-requires : goal.applied-requires
 applied-requires c =
