@@ -1,9 +1,13 @@
--- What a load and an abandon come to, by the condition in which it meets the engine.
-use Rattle.std.proofs.Common.{◌≡◌, ℕ, List, Ok, Err, Result, sym, refl, ap, subst}
+-- What a load, a begin and an abandon come to, by the condition in which it meets the engine.
+use Rattle.std.proofs.Common.{◌≡◌, ℕ, Bool, true, false, if◌then◌else◌, List, [], length, Ok, Err, Result, sym, refl, ap, subst}
 use Rattle.std.specs.Result.{IsErr, IsErrAnd}
 use Rattle.load.specs.Loading.{LoaderLoads}
 use Rattle.calls.specs.declared.answers.NotLoaded.{NotLoaded}
 use Rattle.sheet.specs.Content.{Content}
+use Rattle.sheet.specs.ContentOf.{content_of}
+use Rattle.sheet.specs.declared.kept.Sheet.{Sheet}
+use Rattle.meaning.specs.Runs.{first_work}
+use Rattle.board.specs.Work.{work_of}
 use Rattle.load.specs.declared.refusals.Refusal.{Refusal}
 use Rattle.load.specs.Parsing.{parse_sheet}
 use Rattle.settling.specs.declared.settler.Settler.{Settler}
@@ -11,10 +15,10 @@ use Rattle.calls.specs.declared.answers.Condition.{Condition}
 use Rattle.calls.specs.declared.answers.Condition.TheVariants.{Idle, Open, Ended}
 use Rattle.calls.specs.declared.answers.Denial.{Denial}
 use Rattle.calls.specs.declared.answers.NotLoaded.TheVariants.{RunIsOpen, Refused}
-use Rattle.calls.specs.Standing.{Meant}
-use Rattle.calls.specs.Published.{PublishedAnswer, published, to_load, to_abandon, published_not_loaded}
-use Rattle.calls.specs.Calls.{LoadsBy, LoadsIn, AbandonsIn}
-use Rattle.engine.specs.declared.events.Event.TheVariants.{Load, Abandon}
+use Rattle.calls.specs.Standing.{Meant, Recording, blank, running}
+use Rattle.calls.specs.Published.{PublishedAnswer, published, to_load, to_abandon, published_not_loaded, done}
+use Rattle.calls.specs.Calls.{LoadsBy, LoadsIn, BeginsIn, AbandonsIn}
+use Rattle.engine.specs.declared.events.Event.TheVariants.{Load, Begin, Abandon}
 use Rattle.engine.specs.Events.{admitted, after_event}
 use Rattle.engine.specs.Meant.{standing_by}
 
@@ -48,3 +52,15 @@ pub abandon_does : (c n : Condition) (s : Settler) (e : Content) (r : Result (Un
 abandon_does Idle n s e r h k = (ap (λ (z : Result (Unit {0}) Denial). published (to_abandon z)) h, ap (λ (z : Condition). record { sheet = e; standing = standing_by z s }) k)
 abandon_does Open n s e r h k = (ap (λ (z : Result (Unit {0}) Denial). published (to_abandon z)) h, ap (λ (z : Condition). record { sheet = e; standing = standing_by z s }) k)
 abandon_does (Ended y) n s e r h k = (ap (λ (z : Result (Unit {0}) Denial). published (to_abandon z)) h, ap (λ (z : Condition). record { sheet = e; standing = standing_by z s }) k)
+
+-- a recorder that is started has no states, this width, and the room of its capacity
+pub started : (b : Bool) (v n : ℕ) (capacity : ℕ → ℕ) (q p : Recording) → b ≡ true → v ≡ n → p.states ≡ (if b then [] else q.states) → p.width ≡ (if b then v else q.width) → p.room ≡ (if b then capacity v else q.room) → p ≡ blank n (capacity n)
+started true v n capacity q p h e x y z = rw (sym e, x, y, z) refl
+started false v n capacity q p h e x y z = cc
+
+-- a begin that is not denied opens a run
+pub begin_admitted : (c : Condition) (s d : Settler) (e : Sheet) (capacity : ℕ → ℕ) (q p : Recording) → admitted c Begin ≡ Ok tt → d.state ≡ 0 → work_of d.board ≡ first_work e.run → p ≡ blank (length (content_of e).variables) (capacity (length (content_of e).variables))
+    → BeginsIn (standing_by c s) capacity (record { sheet = content_of e; standing = standing_by c s }) q done (record { sheet = content_of e; standing = running d.state (work_of d.board) }) p
+begin_admitted Idle s d e capacity q p h k w f = (refl, rw (k, w) refl, f)
+begin_admitted Open s d e capacity q p h k w f = cc
+begin_admitted (Ended y) s d e capacity q p h k w f = (refl, rw (k, w) refl, f)
